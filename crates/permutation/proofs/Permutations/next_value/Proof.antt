@@ -1,0 +1,59 @@
+-- `next_value` meets its contract: whatever position the loop has come to, the step from there is the step from the start.
+use mathlib.Core.Path.{_≡_, refl, sym, _∙_}
+use Prim.Native.Nat.{_≤_, _-_}
+use native.Mathlib.Omega.{arith}
+use borrow.Author.Needs.{needs}
+use borrow.Author.Tests.{lt-ltb, eq-eqb, ne-eqb}
+use lib.ListN.{length, length-set}
+use Rattle.permutation.specs.Capacity.{maxElements}
+use Rattle.permutation.specs.Swaps.{stateOf, nextOf}
+use Rattle.permutation.proofs.Look.{next-gives, next-turns, next-ends}
+use Rattle.permutation.proofs.Permutations.next_value.Statement.{statement}
+use Rattle.permutation.proofs.Permutations.next_value.Tie as tie
+
+abbrev Inv-loop : tie.InvT-loop
+Inv-loop n ks₀ i₀ ks i = (n ≤ maxElements) × (length ks ≡ maxElements) × (nextOf (stateOf n ks₀ i₀) ≡ nextOf (stateOf n ks i))
+
+abbrev μ-loop : tie.MeasureT-loop
+μ-loop n ks₀ i₀ ks i = n - i
+
+returns : tie.Need-returns Inv-loop μ-loop
+unfolding nextOf
+returns c = simp (lt-ltb _ _ (c .if1 .taken))
+
+loop-holds : tie.Need-loop-holds Inv-loop μ-loop
+loop-holds c = (omega arith, search needs, refl)
+
+returns-2 : tie.Need-returns-2 Inv-loop μ-loop
+returns-2 c = sym (c .before .before .before .loop .inv .2 ∙ next-gives _ _ _ (omega arith) (omega arith) (omega arith) ∙ simp (eq-eqb _ 0 (c .if3 .taken)))
+
+returns-3 : tie.Need-returns-3 Inv-loop μ-loop
+returns-3 c = sym (c .before .before .before .loop .inv .2 ∙ next-gives _ _ _ (omega arith) (omega arith) (omega arith) ∙ simp (ne-eqb _ 0 (c .if3 .left)))
+
+loop-again : tie.Need-loop-again Inv-loop μ-loop
+loop-again c = (omega arith, simp length-set (omega arith), c .before .before .loop .inv .2 ∙ next-turns _ _ _ (omega arith) (omega arith) (omega arith) (omega arith))
+
+returns-4 : tie.Need-returns-4 Inv-loop μ-loop
+returns-4 c = sym (c .before .loop .inv .2 ∙ next-ends _ _ _ (omega arith) (omega arith))
+
+pub next-value-spec : {M : Type 1} → statement M
+next-value-spec =
+    tie.close
+    (tie.spec
+    Inv-loop
+    μ-loop
+    returns
+    loop-holds
+    (λ c. search needs)
+    (λ c. omega arith)
+    (λ c. omega arith)
+    (λ c. omega arith)
+    (λ c. omega arith)
+    returns-2
+    returns-3
+    (λ c. omega arith)
+    (λ c. omega arith)
+    (λ c. omega arith)
+    (λ c. omega arith)
+    loop-again
+    returns-4)

@@ -1,0 +1,2 @@
+pub mod Capacity
+pub mod Swaps

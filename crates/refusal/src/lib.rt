@@ -1,0 +1,68 @@
+// The refusals of document 01, "Refusal numbers": every refusal has a number and a place.
+
+// A refusal: its number in 01's table, and the place that the table gives it.
+pub struct Refusal {
+    pub number: u8,
+    pub place: usize,
+}
+
+// What every public call says first: nothing is wrong, or the first refusal in 01's order.
+pub enum Verdict {
+    Fine,
+    Refused(Refusal),
+}
+
+// Tables.
+pub const TABLE_LENGTH: u8 = 1;
+
+pub const TABLE_ORDER: u8 = 2;
+
+pub const TABLE_MISSING: u8 = 3;
+
+// Planning and search.
+pub const TOO_MANY_STATEMENTS: u8 = 10;
+
+pub const TOO_MANY_SLOTS: u8 = 11;
+
+pub const TOO_MANY_SELECTS: u8 = 12;
+
+pub const NO_SELECTS: u8 = 13;
+
+pub const NO_SUCH_VARIABLE: u8 = 14;
+
+pub const UNUSED_VARIABLE: u8 = 15;
+
+pub const BOUND_TWICE: u8 = 16;
+
+pub const TOO_MANY_TO_SEARCH: u8 = 17;
+
+pub const NO_SOUND_ORDER: u8 = 18;
+
+// Plans.
+pub const PLAN_COUNTS: u8 = 20;
+
+pub const OUT_OUT_EAVT: u8 = 21;
+
+pub const NO_SUCH_SLOT: u8 = 22;
+
+pub const WRITES_SET_SLOT: u8 = 23;
+
+pub const READS_UNSET_SLOT: u8 = 24;
+
+pub const SLOT_NEVER_SET: u8 = 25;
+
+pub const NO_SUCH_SELECT: u8 = 26;
+
+pub const COST_TOO_LARGE: u8 = 27;
+
+pub const NO_SCANS: u8 = 28;
+
+pub const CONSTANT_SELECTED: u8 = 29;
+
+// Names and text.
+pub const NAME_ENDS: u8 = 30;
+
+pub const TEXT_TOO_SHORT: u8 = 31;
+
+// Swaps.
+pub const TOO_MANY_ELEMENTS: u8 = 40;
