@@ -8,17 +8,27 @@ use mathlib.Core.Bool.{Bool, true, false}
 use lib.ListN.{length, getD, set, take, drop, replicate, take-append-drop}
 use lib.Dec.{ltb}
 use lib.Seq.{take-suc-set, drop-set-lt, getD-set-other}
-use borrow.Author.Tests.{lt-ltb, le-ltb}
+use borrow.Author.Tests.{lt-ltb, le-ltb, ltb-false}
 use Rattle.refusal.specs.declared.Verdict.the-variants.{Fine}
+use Rattle.refusal.proofs.Fine.{refuse-fine}
 use Rattle.permutation.specs.declared.Permutations.{Permutations}
 use Rattle.permutation.specs.declared.Step.{Step}
-use Rattle.permutation.specs.Capacity.{maxElements}
-use Rattle.permutation.specs.Swaps.{pick, stateOf, swapAt, given, noSwap, stopFrom, stopOf, cleared, stepAt, nextOf}
+use Rattle.capacity.specs.Capacity.{maxElements}
+use Rattle.permutation.specs.Swaps.{elementsFault, pick, stateOf, swapAt, given, noSwap, stopFrom, stopOf, cleared, stepAt, nextOf}
+
+-- 40 is given exactly over the capacity
+pub few-fine : (n : ℕ) → n ≤ maxElements → elementsFault n ≡ Fine
+unfolding elementsFault
+few-fine n m = rw (le-ltb maxElements n m)
+
+pub fine-few : (n : ℕ) → elementsFault n ≡ Fine → n ≤ maxElements
+unfolding elementsFault
+fine-few n e = ltb-false maxElements n (refuse-fine _ _ _ e)
 
 -- a state within the capacity: a step stops where its look stops
 pub looks : (s : Permutations) → s .n ≤ maxElements → nextOf s ≡ stepAt s (stopOf s)
 unfolding nextOf
-looks s m = rw (le-ltb maxElements (s .n) m)
+looks s m = rw (few-fine (s .n) m)
 
 -- with no position passed the counters stay
 cleared-none : (ks : List ℕ) (i : ℕ) → cleared i i ks ≡ ks

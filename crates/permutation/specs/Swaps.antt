@@ -7,7 +7,7 @@ use lib.Dec.{ltb, eqb}
 use Rattle.refusal.specs.declared.Verdict.{Verdict}
 use Rattle.refusal.specs.declared.Verdict.the-variants.{Fine}
 use Rattle.refusal.specs.Verdict.{refuseIf, unless}
-use Rattle.permutation.specs.Capacity.{maxElements}
+use Rattle.capacity.specs.Capacity.{maxElements}
 use Rattle.permutation.specs.declared.Permutations.{Permutations}
 use Rattle.permutation.specs.declared.Swap.{Swap}
 use Rattle.permutation.specs.declared.Fresh.{Fresh}
@@ -27,7 +27,7 @@ abbrev pub start : ℕ → Permutations
 start n = stateOf n (replicate maxElements 0) 0
 
 -- 40: a state of more elements than the capacity, asked for or given
-abbrev pub elementsFault : ℕ → Verdict
+unfoldable pub elementsFault : ℕ → Verdict
 elementsFault n = refuseIf (ltb maxElements n) 40 0
 
 -- a fresh state; where it is refused, the state of no elements, all zeros

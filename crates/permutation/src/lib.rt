@@ -9,13 +9,11 @@
 // it holds are refused with a number, and the step has a form by value under the one that changes a lent state.
 
 // Support functionality to generate permutations.
+use capacity::MAX_ELEMENTS;
 use refusal::Refusal;
 use refusal::Verdict;
 ghost use mathlib.Core.Path.{_≡_};
-ghost use Rattle.permutation.specs.Swaps.{freshOf, nextOf};
-
-// The most elements that a state has counters for.
-pub const MAX_ELEMENTS: usize = 48;
+ghost use Rattle.permutation.specs.Swaps.{elementsFault, freshOf, nextOf};
 
 // A state that generates all permutations on n elements.
 //
@@ -56,12 +54,10 @@ impl Permutations {
     pub fn new(n: usize) -> Fresh
         ensures { λ r. ⌜ r ≡ freshOf n ⌝ }
     {
-        if MAX_ELEMENTS < n {
+        let verdict = elements_fault(n);
+        if let Verdict::Refused(_) = verdict {
             return Fresh {
-                verdict: Verdict::Refused(Refusal {
-                    number: refusal::TOO_MANY_ELEMENTS,
-                    place: 0,
-                }),
+                verdict,
                 state: Permutations {
                     ks: [0; MAX_ELEMENTS],
                     n: 0,
@@ -70,7 +66,7 @@ impl Permutations {
             };
         }
         Fresh {
-            verdict: Verdict::Fine,
+            verdict,
             state: Permutations {
                 ks: [0; MAX_ELEMENTS],
                 n,
@@ -84,13 +80,11 @@ impl Permutations {
         ensures { λ r. ⌜ r ≡ nextOf self ⌝ }
     {
         let n = self.n;
-        if MAX_ELEMENTS < n {
+        let verdict = elements_fault(n);
+        if let Verdict::Refused(_) = verdict {
             return Step {
                 next: NextSwap {
-                    verdict: Verdict::Refused(Refusal {
-                        number: refusal::TOO_MANY_ELEMENTS,
-                        place: 0,
-                    }),
+                    verdict,
                     is_some: false,
                     swap: Swap(0, 0),
                 },
@@ -125,4 +119,37 @@ impl Permutations {
             state: Permutations { ks, n, i },
         }
     }
+
+    // Return the next swap, until all permutations have been visited: the lent state is changed in place.
+    pub fn next(&mut self) -> NextSwap
+        ensures { λ r. ⌜ (r ≡ nextOf (now (self .entry)) .next) × (now (self .exit) ≡ nextOf (now (self .entry)) .state) ⌝ }
+    {
+        let before = *self;
+        let step = before.next_value();
+        *self = step.state;
+        step.next
+    }
+}
+
+// The step by the lent form, for callers that have the state by value: a local is lent to `next`.
+pub fn next_lent(state: Permutations) -> Step
+    ensures { λ r. ⌜ r ≡ nextOf state ⌝ }
+{
+    let mut lent = state;
+    let next = lent.next();
+    let after = lent;
+    Step { next, state: after }
+}
+
+// 40: more elements than a state has counters for.
+fn elements_fault(n: usize) -> Verdict
+    ensures { λ r. ⌜ r ≡ elementsFault n ⌝ }
+{
+    if MAX_ELEMENTS < n {
+        return Verdict::Refused(Refusal {
+            number: refusal::TOO_MANY_ELEMENTS,
+            place: 0,
+        });
+    }
+    Verdict::Fine
 }

@@ -3,11 +3,11 @@ use mathlib.Core.Path.{_≡_, refl, sym, _∙_}
 use Prim.Native.Nat.{_≤_, _-_}
 use native.Mathlib.Omega.{arith}
 use borrow.Author.Needs.{needs}
-use borrow.Author.Tests.{lt-ltb, eq-eqb, ne-eqb}
+use borrow.Author.Tests.{eq-eqb, ne-eqb}
 use lib.ListN.{length, length-set}
-use Rattle.permutation.specs.Capacity.{maxElements}
+use Rattle.capacity.specs.Capacity.{maxElements}
 use Rattle.permutation.specs.Swaps.{stateOf, nextOf}
-use Rattle.permutation.proofs.Look.{next-gives, next-turns, next-ends}
+use Rattle.permutation.proofs.Look.{fine-few, next-gives, next-turns, next-ends}
 use Rattle.permutation.proofs.Permutations.next_value.Statement.{statement}
 use Rattle.permutation.proofs.Permutations.next_value.Tie as tie
 
@@ -19,19 +19,20 @@ abbrev μ-loop : tie.MeasureT-loop
 
 returns : tie.Need-returns Inv-loop μ-loop
 unfolding nextOf
-returns c = simp (lt-ltb _ _ (c .if1 .taken))
+returns c = simp (← (c .before .before .elements-fault .ensures), c .enum-told .given .1)
 
 loop-holds : tie.Need-loop-holds Inv-loop μ-loop
-loop-holds c = (omega arith, search needs, refl)
+loop-holds c = (fine-few _ (sym (c .before .before .before .elements-fault .ensures) ∙ c .before .enum-told2 .given .1), search needs, refl)
 
 returns-2 : tie.Need-returns-2 Inv-loop μ-loop
-returns-2 c = sym (c .before .before .before .loop .inv .2 ∙ next-gives _ _ _ (omega arith) (omega arith) (omega arith) ∙ simp (eq-eqb _ 0 (c .if3 .taken)))
+returns-2 c = sym (c .before .before .before .loop .inv .2 ∙ next-gives _ _ _ (omega arith) (omega arith) (omega arith) ∙ simp (eq-eqb _ 0 (c .if2 .taken)))
 
 returns-3 : tie.Need-returns-3 Inv-loop μ-loop
-returns-3 c = sym (c .before .before .before .loop .inv .2 ∙ next-gives _ _ _ (omega arith) (omega arith) (omega arith) ∙ simp (ne-eqb _ 0 (c .if3 .left)))
+returns-3 c = sym (c .before .before .before .loop .inv .2 ∙ next-gives _ _ _ (omega arith) (omega arith) (omega arith) ∙ simp (ne-eqb _ 0 (c .if2 .left)))
 
 loop-again : tie.Need-loop-again Inv-loop μ-loop
-loop-again c = (omega arith, simp length-set (omega arith), c .before .before .loop .inv .2 ∙ next-turns _ _ _ (omega arith) (omega arith) (omega arith) (omega arith))
+loop-again c =
+    (omega arith, simp length-set (omega arith), c .before .before .loop .inv .2 ∙ next-turns _ _ _ (omega arith) (omega arith) (omega arith) (omega arith))
 
 returns-4 : tie.Need-returns-4 Inv-loop μ-loop
 returns-4 c = sym (c .before .loop .inv .2 ∙ next-ends _ _ _ (omega arith) (omega arith))
@@ -42,9 +43,12 @@ next-value-spec =
     (tie.spec
     Inv-loop
     μ-loop
-    returns
-    loop-holds
+    (λ c κs. search needs)
     (λ c. search needs)
+    returns
+    (λ c. search needs)
+    loop-holds
+    (λ c. omega arith)
     (λ c. omega arith)
     (λ c. omega arith)
     (λ c. omega arith)

@@ -1,0 +1,17 @@
+-- What it says that a verdict is fine: no test of it held.
+use mathlib.Core.Path.{_≡_, refl}
+use Prim.Native.Nat.{ℕ}
+use mathlib.Core.Bool.{Bool, true, false}
+use Rattle.refusal.specs.declared.Verdict.{Verdict}
+use Rattle.refusal.specs.declared.Verdict.the-variants.{Fine, Refused}
+use Rattle.refusal.specs.Verdict.{refuseIf, orElse}
+
+-- a refusal's test that does not hold
+pub refuse-fine : (t : Bool) (n p : ℕ) → refuseIf t n p ≡ Fine → t ≡ false
+refuse-fine true n p e = cc
+refuse-fine false n p e = refl
+
+-- the first refusal of two is none where neither is one
+pub or-fine : (a b : Verdict) → orElse a b ≡ Fine → (a ≡ Fine) × (b ≡ Fine)
+or-fine Fine b e = (refl, e)
+or-fine (Refused r) b e = (e, cc)

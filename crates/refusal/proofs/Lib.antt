@@ -1,0 +1,2 @@
+pub mod OneAnswer
+pub mod Fine
