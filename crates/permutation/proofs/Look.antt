@@ -4,7 +4,7 @@ use Prim.Native.Nat.{ℕ, zero, suc, _+_, _-_, _%_, _≤_, _<_}
 use native.Mathlib.Numerals.{add-one}
 use native.Mathlib.Omega.{arith}
 use mathlib.Core.List.{List, [], _∷_, _++_, append-assoc}
-use mathlib.Core.Bool.{Bool, true, false}
+use mathlib.Core.Bool.{Bool, true, false, cond}
 use lib.ListN.{length, getD, set, take, drop, replicate, take-append-drop}
 use lib.Dec.{ltb}
 use lib.Seq.{take-suc-set, drop-set-lt, getD-set-other}
@@ -14,7 +14,7 @@ use Rattle.refusal.proofs.Fine.{refuse-fine}
 use Rattle.permutation.specs.declared.Permutations.{Permutations}
 use Rattle.permutation.specs.declared.Step.{Step}
 use Rattle.capacity.specs.Capacity.{maxElements}
-use Rattle.permutation.specs.Swaps.{elementsFault, pick, stateOf, swapAt, given, noSwap, stopFrom, stopOf, cleared, stepAt, nextOf}
+use Rattle.permutation.specs.Swaps.{elementsFault, stateOf, swapAt, given, noSwap, stopFrom, stopOf, cleared, stepAt, nextOf}
 
 -- 40 is given exactly over the capacity
 pub few-fine : (n : ℕ) → n ≤ maxElements → elementsFault n ≡ Fine
@@ -63,7 +63,7 @@ unfolding stopFrom
 stop-from ks zero i = omega arith
 stop-from ks (suc left) i = later (ltb (getD ks i 0) i) (stop-from ks left (i + 1))
   where
-    later : (t : Bool) {p : ℕ} → i + 1 ≤ p → i ≤ pick t i p
+    later : (t : Bool) {p : ℕ} → i + 1 ≤ p → i ≤ cond t i p
     later true h = omega arith
     later false h = omega arith
 

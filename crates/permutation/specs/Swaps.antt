@@ -1,7 +1,7 @@
 -- 01, "Swaps and the search": what `new` and `next` of 005 answer, and the state after it.
 use Prim.Native.Nat.{ℕ, zero, suc, _+_, _-_, _%_}
 use mathlib.Core.List.{List, _++_}
-use mathlib.Core.Bool.{Bool, true, false}
+use mathlib.Core.Bool.{Bool, true, false, cond}
 use lib.ListN.{getD, set, take, drop, replicate}
 use lib.Dec.{ltb, eqb}
 use Rattle.refusal.specs.declared.Verdict.{Verdict}
@@ -13,10 +13,6 @@ use Rattle.permutation.specs.declared.Swap.{Swap}
 use Rattle.permutation.specs.declared.Fresh.{Fresh}
 use Rattle.permutation.specs.declared.NextSwap.{NextSwap}
 use Rattle.permutation.specs.declared.Step.{Step}
-
-abbrev pub pick : {A : Type 0} → Bool → A → A → A
-pick true a b = a
-pick false a b = b
 
 -- the state of n elements with the counters ks, at position i
 abbrev pub stateOf : ℕ → List ℕ → ℕ → Permutations
@@ -36,7 +32,7 @@ freshOf n = unless (elementsFault n) (λ v. record { verdict = v; state = start 
 
 -- at position i, whose counter is k: (0, i) if i is even, else (k, i)
 abbrev pub swapAt : ℕ → ℕ → Swap
-swapAt i k = record { 0 = pick (eqb (i % 2) 0) 0 k; 1 = i }
+swapAt i k = record { 0 = cond (eqb (i % 2) 0) 0 k; 1 = i }
 
 -- a step's answer that gives a swap, and one that gives none
 abbrev pub given : Swap → NextSwap
@@ -48,7 +44,7 @@ noSwap v = record { verdict = v; «is_some» = false; swap = record { 0 = 0; 1 =
 -- where a look from position i on stops that has so many positions left: at the first whose counter is below it, else past them all
 unfoldable pub stopFrom : List ℕ → ℕ → ℕ → ℕ
 stopFrom ks zero i = i
-stopFrom ks (suc left) i = pick (ltb (getD ks i 0) i) i (stopFrom ks left (i + 1))
+stopFrom ks (suc left) i = cond (ltb (getD ks i 0) i) i (stopFrom ks left (i + 1))
 
 abbrev pub stopOf : Permutations → ℕ
 stopOf s = stopFrom (s .ks) (s .n - s .i) (s .i)
@@ -61,7 +57,7 @@ cleared i p ks = take i ks ++ (replicate (p - i) 0 ++ drop p ks)
 -- else none is left, and the position stays past the last. The positions passed have their counters set to 0
 abbrev pub stepAt : Permutations → ℕ → Step
 stepAt s p =
-    pick (ltb p (s .n))
+    cond (ltb p (s .n))
     (record { next = given (swapAt p (getD (s .ks) p 0)); state = stateOf (s .n) (set (cleared (s .i) p (s .ks)) p (getD (s .ks) p 0 + 1)) 0 })
     (record { next = noSwap Fine; state = stateOf (s .n) (cleared (s .i) p (s .ks)) p })
 

@@ -1,5 +1,8 @@
 // The refusals of document 01, "Refusal numbers": every refusal has a number and a place.
 
+ghost use mathlib.Core.Path.{_≡_};
+ghost use Rattle.refusal.specs.Verdict.{refused};
+
 // A refusal: its number in 01's table, and the place that the table gives it.
 pub struct Refusal {
     pub number: u8,
@@ -10,6 +13,13 @@ pub struct Refusal {
 pub enum Verdict {
     Fine,
     Refused(Refusal),
+}
+
+// The verdict that refuses with a number at a place.
+pub fn refuse(number: u8, place: usize) -> Verdict
+    ensures { λ r. ⌜ r ≡ refused number place ⌝ }
+{
+    Verdict::Refused(Refusal { number, place })
 }
 
 // Tables.

@@ -1,0 +1,11 @@
+pub mod Lists
+pub mod Counts
+pub mod Act
+pub mod Laps
+pub mod Odd
+pub mod Even
+pub mod Net
+pub mod Once
+pub mod Machine
+pub mod Listed
+pub mod Theorem
