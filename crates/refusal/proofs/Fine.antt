@@ -1,4 +1,4 @@
--- What it says that a verdict is fine: no test of it held.
+-- Laws of verdicts: what it says that one is fine, and how they combine.
 use mathlib.Core.Path.{_≡_, refl}
 use Prim.Native.Nat.{ℕ}
 use mathlib.Core.Bool.{Bool, true, false}
@@ -15,3 +15,8 @@ refuse-fine false n p e = refl
 pub or-fine : (a b : Verdict) → orElse a b ≡ Fine → (a ≡ Fine) × (b ≡ Fine)
 or-fine Fine b e = (refl, e)
 or-fine (Refused r) b e = (e, cc)
+
+-- three verdicts, however they are grouped
+pub or-else-assoc : (a b c : Verdict) → orElse (orElse a b) c ≡ orElse a (orElse b c)
+or-else-assoc Fine b c = refl
+or-else-assoc (Refused r) b c = refl

@@ -1,3 +1,4 @@
+-- `damaged` is safe and ends.
 use Rattle.capacity.specs.Capacity.{maxElements}
 use borrow.Author.Needs.{needs}
 use Prim.Native.Nat.{_≤_, _-_}

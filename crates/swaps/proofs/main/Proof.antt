@@ -1,3 +1,4 @@
+-- `main` is safe and ends.
 use borrow.Author.Needs.{needs}
 use Prim.Native.Nat.{_≤_, _-_}
 use Rattle.swaps.proofs.main.Statement.{statement}

@@ -1,0 +1,3 @@
+pub mod Penalty
+pub mod Weight
+pub mod OneAnswer

@@ -1,0 +1,185 @@
+// Noblit -- An immutable append-only database
+// Copyright 2020 Ruud van Asseldonk
+
+// Licensed under the Apache License, Version 2.0 (the "License");
+// you may not use this file except in compliance with the License.
+// A copy of the License has been included in the root of the repository.
+
+// Port of `Plan::cost` of src/plan.rs to Rattle, changed: the hash sets of what earlier scans used are a look back over those
+// scans, and a plan whose cost would pass 2^64 - 1, or that uses eavt for out-out, is refused with a number.
+use capacity::MAX_SCANS;
+use plan::Flow;
+use plan::Index;
+use plan::Plan;
+use plan::Scan;
+use refusal::Verdict;
+use refusal::refuse;
+ghost use mathlib.Core.Path.{_≡_};
+ghost use Prim.Native.Nat.{_≤_, _<_};
+ghost use mathlib.Core.List.{[]};
+ghost use lib.ListN.{take};
+ghost use Rattle.capacity.specs.Capacity.{maxScans};
+ghost use Rattle.cost.specs.Cost.{sameIndex, keyOf, sameKey, penaltyFor, penaltyOf, itersOf, weighedFrom, costOf};
+
+// The answer of `cost`: 0 where it is refused.
+pub struct Costed {
+    pub verdict: Verdict,
+    pub cost: u64,
+}
+
+const LARGEST: u64 = 18446744073709551615;
+
+// A rather ad-hoc cost estimate. Should be replaced with something better.
+pub fn cost(plan: Plan) -> Costed
+    ensures { λ r. ⌜ r ≡ costOf plan ⌝ }
+{
+    let verdict = plan::check_flows(plan);
+    if let Verdict::Refused(_) = verdict {
+        return Costed { verdict, cost: 0 };
+    }
+    let scans = plan.scans;
+    cost_of_scans(scans, plan.scan_count)
+}
+
+// From the last scan to the first, cost = penalty + steps × cost, beginning with 1.
+fn cost_of_scans(scans: [Scan; MAX_SCANS], scan_count: usize) -> Costed
+    requires { ⌜ «scan_count» ≤ maxScans ⌝ }
+    ensures { λ r. ⌜ r ≡ weighedFrom [] (take «scan_count» scans) 0 ⌝ }
+{
+    let mut cost: u64 = 1;
+    let mut left = scan_count;
+    while 0 < left {
+        let i_scan = left - 1;
+        let scan = scans[i_scan];
+        let flow = scan.flow;
+        let index = scan.index;
+        let penalty = locality_penalty(scans, i_scan, scan);
+        let steps = iters(flow, index);
+        let room = (LARGEST - penalty) / steps;
+        if room < cost {
+            let verdict = refuse(refusal::COST_TOO_LARGE, i_scan);
+            return Costed { verdict, cost: 0 };
+        }
+        cost = penalty + steps * cost;
+        left = i_scan;
+    }
+    Costed {
+        verdict: Verdict::Fine,
+        cost,
+    }
+}
+
+// For every scan, estimate a locality penalty. If the scan is over an index that we've used before (in an earlier scan), then
+// at least the root of the tree will still be cached, so the scan is cheaper than when this is the first time we use that
+// index. Furthermore, if we use the same part of the index (e.g. an eavt scan for the same entity that an earlier scan used),
+// then locality is even better, so we reduce the penalty further.
+fn locality_penalty(scans: [Scan; MAX_SCANS], i_scan: usize, scan: Scan) -> u64
+    requires { ⌜ «i_scan» ≤ maxScans ⌝ }
+    ensures { λ r. ⌜ r ≡ penaltyOf (take «i_scan» scans) scan ⌝ }
+{
+    let index = scan.index;
+    let mut is_index_used = false;
+    let mut i = 0;
+    while i < i_scan {
+        let earlier = scans[i];
+        if same_key(scan, earlier) {
+            return penalty_for(index, true, true);
+        }
+        let used = earlier.index;
+        if same_index(index, used) {
+            is_index_used = true;
+        }
+        i += 1;
+    }
+    penalty_for(index, false, is_index_used)
+}
+
+fn penalty_for(index: Index, is_key_used: bool, is_index_used: bool) -> u64
+    ensures { λ r. ⌜ r ≡ penaltyFor index «is_key_used» «is_index_used» ⌝ }
+{
+    match index {
+        Index::Eavt => {
+            if is_key_used {
+                1
+            } else {
+                if is_index_used { 90 } else { 100 }
+            }
+        }
+        Index::Aevt => {
+            if is_key_used {
+                5
+            } else {
+                if is_index_used { 10 } else { 20 }
+            }
+        }
+        Index::Avet => {
+            if is_key_used {
+                10
+            } else {
+                if is_index_used { 50 } else { 60 }
+            }
+        }
+    }
+}
+
+// How many steps a scan is taken to make.
+fn iters(flow: Flow, index: Index) -> u64
+    ensures { λ r. ⌜ r ≡ itersOf flow index ⌝ }
+{
+    match flow {
+        Flow::OutOut => 100,
+        Flow::InIn => 1,
+        Flow::InOut => match index {
+            Index::Aevt => 1,
+            Index::Avet => 20,
+            Index::Eavt => 1,
+        },
+    }
+}
+
+// Whether an earlier scan uses the same part of the same index.
+fn same_key(scan: Scan, earlier: Scan) -> bool
+    ensures { λ r. ⌜ r ≡ sameKey scan earlier ⌝ }
+{
+    let index = scan.index;
+    let used = earlier.index;
+    if same_index(index, used) {
+        key(scan) == key(earlier)
+    } else {
+        false
+    }
+}
+
+// What a scan's locality goes by: the entity slot over eavt, else the attribute.
+fn key(scan: Scan) -> u64
+    ensures { λ r. ⌜ r ≡ keyOf scan ⌝ }
+{
+    let index = scan.index;
+    match index {
+        Index::Aevt => scan.attribute.0,
+        Index::Avet => scan.attribute.0,
+        Index::Eavt => scan.entity.0 as u64,
+    }
+}
+
+fn same_index(index: Index, used: Index) -> bool
+    ensures { λ r. ⌜ r ≡ sameIndex index used ⌝ }
+{
+    match index {
+        Index::Aevt => match used {
+            Index::Aevt => true,
+            Index::Avet => false,
+            Index::Eavt => false,
+        },
+        Index::Avet => match used {
+            Index::Aevt => false,
+            Index::Avet => true,
+            Index::Eavt => false,
+        },
+        Index::Eavt => match used {
+            Index::Aevt => false,
+            Index::Avet => false,
+            Index::Eavt => true,
+        },
+    }
+}

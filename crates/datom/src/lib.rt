@@ -1,0 +1,4 @@
+// The part of noblit's datoms that queries and plans name. Entities, values and constants are u64 here.
+
+// An attribute's number. Variables, slots and attributes are three kinds, and are never mixed.
+pub struct Aid(pub u64);

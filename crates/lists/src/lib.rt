@@ -1,0 +1,1 @@
+// Laws only: facts on lists that proofs of several crates cite.

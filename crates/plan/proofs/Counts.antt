@@ -1,0 +1,33 @@
+-- What it says that the counts of a plan are fine.
+use mathlib.Core.Path.{_≡_, refl}
+use Prim.Native.Nat.{ℕ, _≤_}
+use mathlib.Core.Bool.{Bool, true, false, _||_}
+use borrow.Author.Tests.{ltb-false}
+use lib.Dec.{ltb}
+use Rattle.capacity.specs.Capacity.{maxScans, maxSlots, maxSelects}
+use Rattle.refusal.specs.declared.Verdict.the-variants.{Fine}
+use Rattle.refusal.proofs.Fine.{refuse-fine, or-fine}
+use Rattle.plan.specs.declared.Plan.{Plan}
+use Rattle.plan.specs.Plan.{countsFault, flowsFault}
+
+or-false : (s t : Bool) → (s || t) ≡ false → (s ≡ false) × (t ≡ false)
+or-false true t e = (e, cc)
+or-false false t e = (refl, e)
+
+-- the counts are within the capacities
+pub record Counted (scans slots selects : ℕ) : Type 0 where
+  pub few-scans : scans ≤ maxScans
+  pub few-slots : slots ≤ maxSlots
+  pub few-selects : selects ≤ maxSelects
+
+pub counts-fine : (scans slots selects : ℕ) → countsFault scans slots selects ≡ Fine → Counted scans slots selects
+unfolding countsFault
+counts-fine scans slots selects e =
+    let a = or-false (ltb maxSlots slots || ltb maxScans scans) (ltb maxSelects selects) (refuse-fine _ _ _ e) in
+    let b = or-false (ltb maxSlots slots) (ltb maxScans scans) (a .0) in
+    record { few-scans = ltb-false _ _ (b .1); few-slots = ltb-false _ _ (b .0); few-selects = ltb-false _ _ (a .1) }
+
+-- and so where the flows are fine too
+pub flows-counted : (p : Plan) → flowsFault p ≡ Fine → Counted (p .«scan_count») (p .«slot_count») (p .«select_count»)
+unfolding flowsFault
+flows-counted p e = counts-fine _ _ _ (or-fine _ _ e .0)

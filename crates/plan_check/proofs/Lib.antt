@@ -1,0 +1,3 @@
+pub mod Tracks
+pub mod Promises
+pub mod OneAnswer

@@ -1,0 +1,151 @@
+-- A plan passes the check exactly if it is as `Promised` says: part by part, that nothing is refused is what the part promises.
+use mathlib.Core.Path.{_≡_, refl}
+use mathlib.Core.Logic.{_↔_}
+use Prim.Native.Nat.{ℕ, zero, suc, _+_, _<_}
+use mathlib.Core.List.{List, [], _∷_, _++_, append-nil}
+use mathlib.Core.Bool.{Bool, true, false, not, _||_}
+use native.Mathlib.Nat.{add-zero, zero-add, not-suc-le-zero, le-of-suc-le-suc}
+use native.Mathlib.Omega.{arith}
+use borrow.Author.Tests.{leb-false, lt-leb, le-ltb, eqb-false, ne-eqb, not-false}
+use lib.ListN.{length, getD, take}
+use lib.Seq.{append-snoc}
+use lib.Dec.{leb, eqb}
+use Rattle.refusal.specs.declared.Verdict.the-variants.{Fine}
+use Rattle.refusal.specs.Verdict.{refuseIf}
+use Rattle.refusal.proofs.Fine.{refuse-fine, or-fine}
+use Rattle.plan.specs.declared.Slot.{Slot}
+use Rattle.plan.specs.declared.Scan.{Scan}
+use Rattle.plan.specs.declared.SlotRecord.{SlotRecord}
+use Rattle.plan.specs.declared.Plan.{Plan}
+use Rattle.plan.specs.declared.Access.{Access}
+use Rattle.plan.specs.declared.Access.the-variants.{Reads, Writes}
+use Rattle.plan.specs.Plan.{firstSlot, secondSlot, firstAccess, secondAccess, outOutEavt, countsFault}
+use Rattle.plan.specs.Plan.{zeroSlot, zeroScan, scansOf, slotsOf, selectsOf}
+use Rattle.plan.proofs.Counts.{counts-fine}
+use Rattle.plan_check.specs.Check.{firstWrites, isSet, accessFault, slotFault, scanFault, scansFault}
+use Rattle.plan_check.specs.Check.{unsetFault, initializationFault, selectsFault, checkOf}
+use Rattle.plan_check.specs.Promised.{Rightly, Fits, Promised}
+
+-- 23 and 24: what is read is set, and what is written is not
+access-fine : (a : Access) (set : Bool) (i : ℕ) → accessFault a set i ≡ Fine ↔ Rightly a set
+access-fine Reads true i = (λ e. refl, λ r. refl)
+access-fine Reads false i = (λ e. cc, λ r. cc)
+access-fine Writes true i = (λ e. cc, λ r. cc)
+access-fine Writes false i = (λ e. refl, λ r. refl)
+
+-- 22 too: the slot is one of n
+slot-fine : (n : ℕ) (a : Access) (x : Slot) (set : Bool) (i : ℕ) → slotFault n a x set i ≡ Fine ↔ (x .0 < n) × Rightly a set
+unfolding slotFault
+slot-fine n a x set i = (
+  λ e.
+      let b = or-fine (refuseIf (leb n (x .0)) 22 i) (accessFault a set i) e in
+      (leb-false _ _ (refuse-fine _ _ _ (b .0)), access-fine a set i .0 (b .1)),
+  λ h. simp (lt-leb _ _ (h .0), access-fine a set i .1 (h .1)),
+)
+
+-- what holds of 0, and of one more than each number below n, holds of each below n + 1
+each : (P : ℕ → Type 0) (n : ℕ) → P 0 → ((j : ℕ) → j < n → P (suc j)) → (j : ℕ) → j < suc n → P j
+each P n p q zero h = p
+each P n p q (suc j) h = q j (le-of-suc-le-suc h)
+
+module _ (slots : List SlotRecord) where
+  -- 21 too: the scan fits after those before it
+  scan-fine : (before : List Scan) (s : Scan) (i : ℕ) → scanFault slots before s i ≡ Fine ↔ Fits slots before s
+  unfolding scanFault
+  scan-fine before s i =
+      let n = length slots in
+      let x = firstSlot s .0 in
+      let y = secondSlot s .0 in
+      let first = slot-fine n (firstAccess (s .flow)) (firstSlot s) (isSet slots before x) i in
+      let second = slot-fine n (secondAccess (s .flow)) (secondSlot s) (isSet slots before y || firstWrites s y) i in (
+        λ e.
+            let a = or-fine (refuseIf (outOutEavt (s .flow) (s .index)) 21 i) _ e in
+            let b = or-fine (slotFault n (firstAccess (s .flow)) (firstSlot s) (isSet slots before x) i) _ (a .1) in
+            record {
+              not-out-out-eavt = refuse-fine _ _ _ (a .0);
+              first-named = first .0 (b .0) .0;
+              first-right = first .0 (b .0) .1;
+              second-named = second .0 (b .1) .0;
+              second-right = second .0 (b .1) .1;
+            },
+        λ f. simp (f .not-out-out-eavt, first .1 (f .first-named, f .first-right), second .1 (f .second-named, f .second-right)),
+      )
+
+  -- each of the scans fits after those before it
+  scans-fine : (before ss : List Scan) (i : ℕ)
+      → scansFault slots before ss i ≡ Fine ↔ ((j : ℕ) → j < length ss → Fits slots (before ++ take j ss) (getD ss j zeroScan))
+  unfolding scansFault
+  scans-fine before [] i = (λ e j h. absurd (not-suc-le-zero h), λ f. refl)
+  scans-fine before (s ∷ ss) i =
+      let first = scan-fine before s i in
+      let rest = scans-fine (before ++ (s ∷ [])) ss (i + 1) in (
+        λ e.
+            let b = or-fine (scanFault slots before s i) _ e in
+            each (λ j. Fits slots (before ++ take j (s ∷ ss)) (getD (s ∷ ss) j zeroScan)) (length ss)
+            (rw append-nil (first .0 (b .0)))
+            (λ j h. rw append-snoc at (rest .0 (b .1) j h)),
+        λ f. simp (first .1 (rw append-nil at (f 0 (omega arith)))) (rest .1 (λ j h. rw append-snoc (f (suc j) (omega arith)))),
+      )
+
+  -- 25: each of so many slots from number k on is set
+  unset-fine : (scans : List Scan) (left k : ℕ)
+      → unsetFault slots scans left k ≡ Fine ↔ ((j : ℕ) → j < left → isSet slots scans (k + j) ≡ true)
+  unfolding unsetFault
+  unset-fine scans zero k = (λ e j h. absurd (not-suc-le-zero h), λ f. refl)
+  unset-fine scans (suc left) k =
+      let rest = unset-fine scans left (k + 1) in
+      let on : (j : ℕ) → k + suc j ≡ k + 1 + j = λ j. omega arith in (
+        λ e.
+            let b = or-fine (refuseIf (not (isSet slots scans k)) 25 k) _ e in
+            each (λ j. isSet slots scans (k + j) ≡ true) left
+            (rw add-zero (not-false _ (refuse-fine _ _ _ (b .0))))
+            (λ j h. rw on (rest .0 (b .1) j h)),
+        λ f. simp (rw add-zero at (f 0 (omega arith))) (rest .1 (λ j h. rw on at (f (suc j) (omega arith)))),
+      )
+
+-- 26: each of the selects names one of n slots
+selects-fine : (n : ℕ) (ks : List Slot) (i : ℕ) → selectsFault n ks i ≡ Fine ↔ ((j : ℕ) → j < length ks → getD ks j zeroSlot .0 < n)
+unfolding selectsFault
+selects-fine n [] i = (λ e j h. absurd (not-suc-le-zero h), λ f. refl)
+selects-fine n (k ∷ ks) i =
+    let rest = selects-fine n ks (i + 1) in (
+      λ e.
+          let b = or-fine (refuseIf (leb n (k .0)) 26 i) _ e in
+          each (λ j. getD (k ∷ ks) j zeroSlot .0 < n) (length ks) (leb-false _ _ (refuse-fine _ _ _ (b .0))) (rest .0 (b .1)),
+      λ f. simp (lt-leb _ _ (f 0 (omega arith))) (rest .1 (λ j h. f (suc j) (omega arith))),
+    )
+
+-- what a caller has of a plan that passes
+pub promises : (p : Plan) → checkOf p ≡ Fine → Promised p
+unfolding checkOf initializationFault
+promises p e =
+    let slots = slotsOf p in
+    let scans = scansOf p in
+    let a = or-fine (countsFault (p .«scan_count») (p .«slot_count») (p .«select_count»)) _ e in
+    let b = or-fine (refuseIf (eqb (p .«select_count») 0) 13 0) _ (a .1) in
+    let d = or-fine (initializationFault slots scans) _ (b .1) in
+    let f = or-fine (scansFault slots [] scans 0) _ (d .0) in
+    let w = counts-fine _ _ _ (a .0) in
+    let some : eqb (p .«select_count») 0 ≡ false = refuse-fine _ _ _ (b .0) in
+    record {
+      few-scans = w .few-scans;
+      few-slots = w .few-slots;
+      few-selects = w .few-selects;
+      some-select = omega (arith, eqb-false);
+      scans-fit = scans-fine slots [] scans 0 .0 (f .0);
+      all-set = λ k h. rw zero-add at (unset-fine slots scans (length slots) 0 .0 (f .1) k h);
+      selects-named = selects-fine (length slots) (selectsOf p) 0 .0 (d .1);
+    }
+
+-- and all that it takes to pass
+pub promised-passes : (p : Plan) → Promised p → checkOf p ≡ Fine
+unfolding checkOf initializationFault countsFault
+promised-passes p q =
+    let slots = slotsOf p in
+    let scans = scansOf p in
+    simp (le-ltb _ _ (q .few-slots), le-ltb _ _ (q .few-scans), le-ltb _ _ (q .few-selects), ne-eqb (p .«select_count») 0 (λ z. omega arith))
+    (simp (
+      scans-fine slots [] scans 0 .1 (q .scans-fit),
+      unset-fine slots scans (length slots) 0 .1 (λ k h. rw zero-add (q .all-set k h)),
+      selects-fine (length slots) (selectsOf p) 0 .1 (q .selects-named),
+    ))

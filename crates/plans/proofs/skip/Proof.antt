@@ -1,0 +1,27 @@
+-- `skip` is safe and ends.
+use borrow.Author.Needs.{needs}
+use Prim.Native.Nat.{_≤_, _-_}
+use lib.ListN.{length}
+use Rattle.plans.proofs.skip.Statement.{statement}
+use Rattle.plans.proofs.skip.Tie as tie
+
+abbrev Inv-loop : tie.InvT-loop
+Inv-loop text start at₀ at = start ≤ at
+
+abbrev μ-loop : tie.MeasureT-loop
+μ-loop text start at₀ at = length text - at
+
+pub skip-spec : {M : Type 1} → statement M
+skip-spec =
+    tie.close
+    (tie.spec
+    Inv-loop
+    μ-loop
+    (λ c. search needs)
+    (λ c. search needs)
+    (λ c κs. search needs)
+    (λ c. search needs)
+    (λ c. search needs)
+    (λ c. search needs)
+    (λ c. search needs)
+    (λ c. search needs))

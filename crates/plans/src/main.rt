@@ -1,0 +1,255 @@
+// Answers plans given as decimal numbers: what the plan check says, and the cost. For each plan: its counts of scans, slots and
+// selects as it claims them, how many of each follow, and these: a scan is five numbers (index 0 aevt, 1 avet, 2 eavt; flow 0
+// out-out, 1 in-out, 2 in-in; entity, attribute, value), a slot two (1 for a constant, its value), a select one.
+// stdin and stdout are written by the Rust (compare/plans.rs).
+use capacity::MAX_SCANS;
+use capacity::MAX_SELECTS;
+use capacity::MAX_SLOTS;
+use datom::Aid;
+use libc::STDIN_FILENO;
+use libc::STDOUT_FILENO;
+use plan::Flow;
+use plan::Index;
+use plan::Plan;
+use plan::Scan;
+use plan::Slot;
+use plan::SlotDefinition;
+use plan::SlotRecord;
+use refusal::Verdict;
+ghost use Prim.Native.Nat.{_≤_};
+
+// A number that was read, and where to read on.
+struct Number {
+    value: u64,
+    next: usize,
+}
+
+// A plan on the way, and where to read on.
+struct Reading {
+    plan: Plan,
+    next: usize,
+}
+
+fn is_digit(b: u8) -> bool {
+    48 <= b && b <= 57
+}
+
+// The number with one more digit; one that would not fit stays as it is.
+fn with_digit(value: u64, b: u8) -> u64 {
+    let d = (b % 48) as u64;
+    if value <= (18446744073709551615 - d) / 10 {
+        value * 10 + d
+    } else {
+        value
+    }
+}
+
+// The next place of a digit.
+fn skip(text: &[u8], start: usize) -> usize
+    ensures { λ r. ⌜ start ≤ r ⌝ }
+{
+    let mut at = start;
+    while at < text.len() {
+        if is_digit(text[at]) {
+            return at;
+        }
+        at += 1;
+    }
+    at
+}
+
+// The number whose digits begin at a place.
+fn digits(text: &[u8], start: usize) -> Number {
+    let mut value: u64 = 0;
+    let mut at = start;
+    while at < text.len() {
+        let b = text[at];
+        if is_digit(b) {
+            value = with_digit(value, b);
+        } else {
+            return Number { value, next: at };
+        }
+        at += 1;
+    }
+    Number { value, next: at }
+}
+
+fn number_at(text: &[u8], start: usize) -> Number {
+    digits(text, skip(text, start))
+}
+
+fn slot(value: u64) -> Slot {
+    Slot((value % 65536) as u16)
+}
+
+fn index_of(code: u64) -> Index {
+    match code {
+        0 => Index::Aevt,
+        1 => Index::Avet,
+        _ => Index::Eavt,
+    }
+}
+
+fn flow_of(code: u64) -> Flow {
+    match code {
+        0 => Flow::OutOut,
+        1 => Flow::InOut,
+        _ => Flow::InIn,
+    }
+}
+
+fn definition_of(is_constant: u64, value: u64) -> SlotDefinition {
+    if is_constant == 1 {
+        SlotDefinition::Constant(value)
+    } else {
+        SlotDefinition::Variable
+    }
+}
+
+fn with_scan(text: &[u8], reading: Reading, i: usize) -> Reading {
+    let index = number_at(text, reading.next);
+    let flow = number_at(text, index.next);
+    let entity = number_at(text, flow.next);
+    let attribute = number_at(text, entity.next);
+    let value = number_at(text, attribute.next);
+    let mut plan = reading.plan;
+    if i < MAX_SCANS {
+        plan.scans[i] = Scan {
+            index: index_of(index.value),
+            flow: flow_of(flow.value),
+            entity: slot(entity.value),
+            attribute: Aid(attribute.value),
+            value: slot(value.value),
+        };
+    }
+    Reading {
+        plan,
+        next: value.next,
+    }
+}
+
+fn with_slot(text: &[u8], reading: Reading, i: usize) -> Reading {
+    let is_constant = number_at(text, reading.next);
+    let value = number_at(text, is_constant.next);
+    let mut plan = reading.plan;
+    if i < MAX_SLOTS {
+        plan.slots[i] = SlotRecord {
+            definition: definition_of(is_constant.value, value.value),
+        };
+    }
+    Reading {
+        plan,
+        next: value.next,
+    }
+}
+
+fn with_select(text: &[u8], reading: Reading, i: usize) -> Reading {
+    let value = number_at(text, reading.next);
+    let mut plan = reading.plan;
+    if i < MAX_SELECTS {
+        plan.select[i] = slot(value.value);
+    }
+    Reading {
+        plan,
+        next: value.next,
+    }
+}
+
+fn with_scans(text: &[u8], start: Reading, count: u64) -> Reading {
+    let mut reading = start;
+    for i in 0..MAX_SCANS {
+        if (i as u64) < count {
+            reading = with_scan(text, reading, i);
+        }
+    }
+    reading
+}
+
+fn with_slots(text: &[u8], start: Reading, count: u64) -> Reading {
+    let mut reading = start;
+    for i in 0..MAX_SLOTS {
+        if (i as u64) < count {
+            reading = with_slot(text, reading, i);
+        }
+    }
+    reading
+}
+
+fn with_selects(text: &[u8], start: Reading, count: u64) -> Reading {
+    let mut reading = start;
+    for i in 0..MAX_SELECTS {
+        if (i as u64) < count {
+            reading = with_select(text, reading, i);
+        }
+    }
+    reading
+}
+
+// The plan whose numbers begin at a place.
+fn read_plan(text: &[u8], start: usize) -> Reading {
+    let scan_count = number_at(text, start);
+    let slot_count = number_at(text, scan_count.next);
+    let select_count = number_at(text, slot_count.next);
+    let scans = number_at(text, select_count.next);
+    let slots = number_at(text, scans.next);
+    let selects = number_at(text, slots.next);
+    let mut plan = Plan::empty();
+    plan.scan_count = scan_count.value as usize;
+    plan.slot_count = slot_count.value as usize;
+    plan.select_count = select_count.value as usize;
+    let empty = Reading {
+        plan,
+        next: selects.next,
+    };
+    let scanned = with_scans(text, empty, scans.value);
+    let slotted = with_slots(text, scanned, slots.value);
+    with_selects(text, slotted, selects.value)
+}
+
+fn put_verdict(verdict: Verdict) {
+    match verdict {
+        Verdict::Fine => {
+            io::write_all(STDOUT_FILENO, b"fine");
+        }
+        Verdict::Refused(r) => {
+            io::write_all(STDOUT_FILENO, b"refused ");
+            io::print_decimal(STDOUT_FILENO, r.number as u64);
+            io::write_all(STDOUT_FILENO, b" at ");
+            io::print_decimal(STDOUT_FILENO, r.place as u64);
+        }
+    }
+}
+
+fn put_answers(plan: Plan) {
+    io::write_all(STDOUT_FILENO, b"check ");
+    put_verdict(plan_check::check_invariants(plan));
+    io::write_all(STDOUT_FILENO, b", cost ");
+    let costed = cost::cost(plan);
+    let verdict = costed.verdict;
+    if let Verdict::Fine = verdict {
+        io::print_decimal(STDOUT_FILENO, costed.cost);
+    } else {
+        put_verdict(verdict);
+    }
+    io::write_all(STDOUT_FILENO, b"\n");
+}
+
+// The answers to all plans of a text.
+fn put_all(text: &[u8]) {
+    let mut at: usize = 0;
+    while skip(text, at) < text.len() {
+        let reading = read_plan(text, at);
+        let plan = reading.plan;
+        put_answers(plan);
+        if reading.next <= at {
+            return;
+        }
+        at = reading.next;
+    }
+}
+
+fn main() {
+    let mut buffer = io::large_buffer();
+    let n = io::read_full(STDIN_FILENO, &mut buffer);
+    put_all(&buffer[..n]);
+}
