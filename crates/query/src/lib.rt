@@ -10,6 +10,8 @@
 // Defines queries (read-only).
 //
 // Queries need to be translated into a query plan before they can be evaluated.
+use capacity::MAX_SELECTS;
+use capacity::MAX_STATEMENTS;
 use datom::Aid;
 
 // A placeholder variable in a query.
@@ -19,8 +21,8 @@ pub struct Var(pub u16);
 
 // The value in a query can be a constant or a variable.
 pub enum QueryValue {
-    Var(Var),
     Const(u64),
+    Var(Var),
 }
 
 // A statement that relates an entity, attribute, and a value.
@@ -28,4 +30,30 @@ pub struct Statement {
     pub entity: Var,
     pub attribute: Aid,
     pub value: QueryValue,
+}
+
+// Statements by value: as many as the count says, which may be more than the array holds.
+pub struct Statements {
+    pub items: [Statement; MAX_STATEMENTS],
+    pub count: usize,
+}
+
+// Variables to select, by value, in the same way.
+pub struct Selects {
+    pub items: [Var; MAX_SELECTS],
+    pub count: usize,
+}
+
+// A query.
+//
+// It finds the assignments to its variables that make all its statements facts, and selects some of the variables.
+pub struct Query {
+    // The number of variables. Their names serve the plan text only, and are lent to that.
+    pub variable_count: u64,
+
+    // The statements that must hold.
+    pub where_statements: Statements,
+
+    // The variables to yield, in order.
+    pub select: Selects,
 }

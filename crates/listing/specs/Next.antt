@@ -1,0 +1,69 @@
+-- 01, "How a query becomes a plan": the cycles, and `next`.
+use Prim.Native.Nat.{ℕ, zero, suc}
+use mathlib.Core.List.{List, [], _∷_, _++_}
+use mathlib.Core.Bool.{Bool, true, false, cond}
+use lib.ListN.{drop}
+use Rattle.refusal.specs.declared.Verdict.the-variants.{Fine}
+use Rattle.refusal.specs.Verdict.{unless}
+use Rattle.plan.specs.declared.Scan.{Scan}
+use Rattle.plan.specs.declared.Plan.{Plan}
+use Rattle.plan.specs.declared.Index.{Index}
+use Rattle.plan.specs.declared.Index.the-variants.{Aevt, Avet, Eavt}
+use Rattle.plan.specs.declared.Flow.{Flow}
+use Rattle.plan.specs.declared.Flow.the-variants.{OutOut, InOut, InIn}
+use Rattle.plan.specs.Plan.{scansOf, flowsFault}
+use Rattle.listing.specs.declared.NextPlan.{NextPlan}
+
+-- cycles: out-out aevt, avet; in-in aevt, avet, eavt; in-out aevt, eavt; in-out avet alone. The next index of the cycle
+abbrev pub nextIndex : Flow → Index → Index
+nextIndex OutOut Aevt = Avet
+nextIndex OutOut Avet = Aevt
+nextIndex OutOut Eavt = Eavt
+nextIndex InIn Aevt = Avet
+nextIndex InIn Avet = Eavt
+nextIndex InIn Eavt = Aevt
+nextIndex InOut Aevt = Eavt
+nextIndex InOut Eavt = Aevt
+nextIndex InOut Avet = Avet
+
+-- whether that is a new one, and not the first again
+abbrev pub isNewIndex : Flow → Index → Bool
+isNewIndex OutOut Aevt = true
+isNewIndex OutOut Avet = false
+isNewIndex OutOut Eavt = false
+isNewIndex InIn Aevt = true
+isNewIndex InIn Avet = true
+isNewIndex InIn Eavt = false
+isNewIndex InOut Aevt = true
+isNewIndex InOut Eavt = false
+isNewIndex InOut Avet = false
+
+abbrev pub nextScan : Scan → Scan
+nextScan s = record { index = nextIndex (s .flow) (s .index); flow = s .flow; entity = s .entity; attribute = s .attribute; value = s .value }
+
+-- `next` steps scan 0; one that wraps carries to scan 1, and so on
+unfoldable pub nextScans : List Scan → List Scan
+nextScans [] = []
+nextScans (s ∷ ss) = nextScan s ∷ cond (isNewIndex (s .flow) (s .index)) ss (nextScans ss)
+
+-- when all wrap it says no
+unfoldable pub isNewScans : List Scan → Bool
+isNewScans [] = false
+isNewScans (s ∷ ss) = cond (isNewIndex (s .flow) (s .index)) true (isNewScans ss)
+
+-- a plan with other scans below its count; the places past it stay as they are
+abbrev pub withScans : Plan → List Scan → Plan
+withScans p ss = record {
+  scans = ss ++ drop (p .«scan_count») (p .scans);
+  «scan_count» = p .«scan_count»;
+  slots = p .slots;
+  «slot_count» = p .«slot_count»;
+  select = p .select;
+  «select_count» = p .«select_count»;
+}
+
+-- what `next` answers; where it refuses (20, then 21 at the lowest such scan), no, and the plan as it was given
+unfoldable pub nextOf : Plan → NextPlan
+nextOf p =
+    unless (flowsFault p) (λ v. record { verdict = v; «is_new» = false; plan = p })
+    (record { verdict = Fine; «is_new» = isNewScans (scansOf p); plan = withScans p (nextScans (scansOf p)) })

@@ -1,0 +1,5 @@
+pub mod Statements
+pub mod Tracks
+pub mod Begun
+pub mod Slots
+pub mod Accepted

@@ -1,0 +1,11 @@
+-- `is_value_set` meets its contract: constants are set.
+use mathlib.Core.Path.{_≡_, sym, _∙_}
+use borrow.Author.Needs.{needs}
+use Rattle.planner.proofs.is_value_set.Statement.{statement}
+use Rattle.planner.proofs.is_value_set.Tie as tie
+
+variable : tie.Need-returns-2
+variable c = rw (c .is-set .ensures) (simp (c .before .before .value .given .1))
+
+pub is-value-set-spec : {M : Type 1} → statement M
+is-value-set-spec = tie.close (tie.spec (λ c. search needs) (λ c. search needs) (λ c κs. search needs) (λ c. search needs) variable)

@@ -1,0 +1,17 @@
+-- `with_statement` meets its contract: the entity, then the value.
+use mathlib.Core.Path.{_≡_, sym, _∙_}
+use borrow.Author.Needs.{needs}
+use Rattle.planner.specs.Record.{statementRecord}
+use Rattle.planner.proofs.with_statement.Statement.{statement}
+use Rattle.planner.proofs.with_statement.Tie as tie
+
+constant : tie.Need-returns
+unfolding statementRecord
+constant c = simp (c .enum-told .given .1) (c .before .before .with-variable .ensures)
+
+variable : tie.Need-returns-2
+unfolding statementRecord
+variable c = simp (c .before .before .value .given .1) (rw (c .before .before .before .before .with-variable .ensures) at (c .with-variable2 .ensures))
+
+pub with-statement-spec : {M : Type 1} → statement M
+with-statement-spec = tie.close (tie.spec (λ c κs. search needs) (λ c. search needs) (λ c. search needs) (λ c κs. search needs) constant variable)

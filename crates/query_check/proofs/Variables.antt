@@ -1,0 +1,43 @@
+-- What it says that the variables of statements and selects are fine.
+use mathlib.Core.Path.{_≡_, refl}
+use Prim.Native.Nat.{ℕ, zero, suc, _+_, _≤_, _<_}
+use native.Mathlib.Omega.{arith}
+use native.Mathlib.Nat.{not-suc-le-zero, le-of-suc-le-suc}
+use mathlib.Core.List.{List, [], _∷_}
+use mathlib.Core.Bool.{Bool, true, false, _||_}
+use borrow.Author.Tests.{leb-false}
+use lib.ListN.{length, getD}
+use lib.Dec.{leb}
+use Rattle.refusal.specs.declared.Verdict.the-variants.{Fine}
+use Rattle.refusal.specs.Verdict.{refuseIf}
+use Rattle.refusal.proofs.Fine.{refuse-fine, or-fine}
+use Rattle.query.specs.declared.QueryValue.{QueryValue}
+use Rattle.query.specs.declared.QueryValue.the-variants.{Const, Var as Variable}
+use Rattle.query.specs.declared.Statement.{Statement}
+use Rattle.query_check.specs.Refusals.{highValue, high, statementsFault}
+use Rattle.query_check.specs.Below.{ValueBelow, Below}
+
+or-false : (s t : Bool) → (s || t) ≡ false → (s ≡ false) × (t ≡ false)
+or-false true t e = (e, cc)
+or-false false t e = (refl, e)
+
+value-low : (n : ℕ) (v : QueryValue) → highValue n v ≡ false → ValueBelow n v
+value-low n (Const c) e = tt
+value-low n (Variable x) e = leb-false _ _ e
+
+-- each statement names variables below the count
+pub statements-below : (n : ℕ) (ss : List Statement) (i : ℕ) → statementsFault n ss i ≡ Fine → (j : ℕ) (d : Statement) → j < length ss → Below n (getD ss j d)
+unfolding statementsFault
+statements-below n [] i e j d h = absurd (not-suc-le-zero h)
+statements-below n (s ∷ ss) i e zero d h =
+    let o = or-false (leb n (s .entity .0)) (highValue n (s .value)) (refuse-fine _ _ _ (or-fine (refuseIf (high n s) 14 i) _ e .0)) in
+    record { entity-below = leb-false _ _ (o .0); value-below = value-low n (s .value) (o .1) }
+statements-below n (s ∷ ss) i e (suc j) d h = statements-below n ss (i + 1) (or-fine (refuseIf (high n s) 14 i) _ e .1) j d (le-of-suc-le-suc h)
+
+-- and below what is no less
+value-more : (n m : ℕ) → n ≤ m → (v : QueryValue) → ValueBelow n v → ValueBelow m v
+value-more n m h (Const c) b = tt
+value-more n m h (Variable x) b = omega arith
+
+pub below-more : (n m : ℕ) → n ≤ m → (s : Statement) → Below n s → Below m s
+below-more n m h s b = record { entity-below = omega arith; value-below = value-more n m h (s .value) (b .value-below) }

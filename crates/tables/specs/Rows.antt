@@ -1,0 +1,60 @@
+-- 01, "Tables and rows": a table is a list of words, some words a row, strictly ascending word by word.
+use Prim.Native.Nat.{ℕ, zero, suc, _+_, _*_, _/_}
+use mathlib.Core.List.{List, [], _∷_, _++_, map}
+use mathlib.Core.Bool.{Bool, true, false, cond, _&&_, _||_}
+use lib.ListN.{length, getD, take, drop}
+use lib.Dec.{ltb, eqb}
+use Rattle.datom.specs.Fact.{Fact, words}
+
+-- how many rows a table has
+abbrev pub count : List ℕ → ℕ
+count t = length t / words
+
+-- the words of row i
+unfoldable pub row : List ℕ → ℕ → List ℕ
+row t i = take words (drop (words * i) t)
+
+-- i, i + 1, ..: so many of them
+unfoldable pub span : ℕ → ℕ → List ℕ
+span i zero = []
+span i (suc n) = i ∷ span (i + 1) n
+
+-- the rows of a table, in table order
+abbrev pub rowsOf : List ℕ → List (List ℕ)
+rowsOf t = map (row t) (span 0 (count t))
+
+-- a row comes before another: at the first word where they differ it has the smaller
+unfoldable pub before : List ℕ → List ℕ → Bool
+before [] ys = false
+before (x ∷ xs) [] = false
+before (x ∷ xs) (y ∷ ys) = ltb x y || (eqb x y && before xs ys)
+
+-- each row comes before the next
+unfoldable pub ascending : List (List ℕ) → Bool
+ascending [] = true
+ascending (r ∷ []) = true
+ascending (r ∷ (s ∷ rs)) = before r s && ascending (s ∷ rs)
+
+-- a row begins with the words of a key
+unfoldable pub begins : List ℕ → List ℕ → Bool
+begins xs [] = true
+begins [] (k ∷ ks) = false
+begins (x ∷ xs) (k ∷ ks) = eqb x k && begins xs ks
+
+-- those of the numbers that pass the test
+unfoldable pub keep : (ℕ → Bool) → List ℕ → List ℕ
+keep p [] = []
+keep p (x ∷ xs) = cond (p x) (x ∷ keep p xs) (keep p xs)
+
+-- the numbers of the rows that begin with a key, in table order
+unfoldable pub matching : List ℕ → List ℕ → List ℕ
+matching t ks = keep (λ i. begins (row t i) ks) (span 0 (count t))
+
+-- rows one after the other, as words
+unfoldable pub flat : List (List ℕ) → List ℕ
+flat [] = []
+flat (r ∷ rs) = r ++ flat rs
+
+-- the fact that a row of aevt holds
+abbrev pub factOf : List ℕ → Fact
+factOf r = record { attribute = getD r 0 0; entity = getD r 1 0; value = getD r 2 0 }
