@@ -3,3 +3,4 @@ pub mod Tracks
 pub mod Begun
 pub mod Slots
 pub mod Accepted
+pub mod OneAnswer

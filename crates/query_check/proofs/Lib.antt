@@ -1,3 +1,4 @@
 pub mod Constants
 pub mod Capacity
 pub mod Variables
+pub mod OneAnswer

@@ -1,5 +1,6 @@
 -- 01, "Tables and rows": a table is a list of words, some words a row, strictly ascending word by word.
-use Prim.Native.Nat.{ℕ, zero, suc, _+_, _*_, _/_}
+use mathlib.Core.Path.{_≡_}
+use Prim.Native.Nat.{ℕ, zero, suc, _+_, _*_, _-_, _/_, _≤_, _<_}
 use mathlib.Core.List.{List, [], _∷_, _++_, map}
 use mathlib.Core.Bool.{Bool, true, false, cond, _&&_, _||_}
 use lib.ListN.{length, getD, take, drop}
@@ -58,3 +59,19 @@ flat (r ∷ rs) = r ++ flat rs
 -- the fact that a row of aevt holds
 abbrev pub factOf : List ℕ → Fact
 factOf r = record { attribute = getD r 0 0; entity = getD r 1 0; value = getD r 2 0 }
+
+-- a key: the first n of three words
+abbrev pub key : ℕ → ℕ → ℕ → ℕ → List ℕ
+key n a b c = take n (a ∷ b ∷ c ∷ [])
+
+-- a row comes before a key or, with past, begins with it
+unfoldable pub passes : Bool → List ℕ → List ℕ → Bool
+passes past xs ks = before xs ks || (past && begins xs ks)
+
+-- r is the number of the first row from number i on that does not pass a key; where all pass, it is how many rows there are, and i where
+-- there are fewer. What passes is said only of an ascending table.
+pub record Bound (t : List ℕ) (i : ℕ) (ks : List ℕ) (past : Bool) (r : ℕ) : Type 0 where
+  pub at-least : i ≤ r
+  pub at-most : r ≤ i + (count t - i)
+  pub passed : ascending (rowsOf t) ≡ true → (k : ℕ) → i ≤ k → k < r → passes past (row t k) ks ≡ true
+  pub stopped : ascending (rowsOf t) ≡ true → (k : ℕ) → r ≤ k → k < count t → passes past (row t k) ks ≡ false

@@ -1,1 +1,176 @@
 // Sorted tables of facts (01, "Tables and rows"): their check, and the range finder. Added: the Rust has tree iterators here.
+use datom::WORDS;
+use refusal::Verdict;
+use refusal::refuse;
+ghost use mathlib.Core.Path.{_≡_};
+ghost use mathlib.Core.Bool.{true};
+ghost use mathlib.Core.List.{[], _∷_, map};
+ghost use Prim.Native.Nat.{_<_};
+ghost use Rattle.tables.specs.Rows.{count, row, rowsOf, ascending, key, passes, Bound, matching, flat};
+ghost use Rattle.tables.specs.Check.{isAmong, lengthsFault, missingFault, tablesFault};
+
+// The words that order a table's rows, and that a key can have.
+const KEY_WORDS: usize = 3;
+
+// The check of three tables: that nothing is wrong, or the first refusal.
+pub fn check_tables(aevt: &[u64], avet: &[u64], eavt: &[u64]) -> Verdict
+    ensures { λ r. ⌜ r ≡ tablesFault (now (aevt .entry)) (now (avet .entry)) (now (eavt .entry)) ⌝ }
+{
+    let lengths = check_lengths(aevt.len(), avet.len(), eavt.len());
+    if let Verdict::Refused(_) = lengths {
+        return lengths;
+    }
+    if !is_ascending(aevt) {
+        return refuse(refusal::TABLE_ORDER, 0);
+    }
+    if !is_ascending(avet) {
+        return refuse(refusal::TABLE_ORDER, 1);
+    }
+    if !is_ascending(eavt) {
+        return refuse(refusal::TABLE_ORDER, 2);
+    }
+    check_missing(aevt, avet, eavt)
+}
+
+// 1: a table's length is no multiple of the words a row, or lengths differ.
+fn check_lengths(aevt: usize, avet: usize, eavt: usize) -> Verdict
+    ensures { λ r. ⌜ r ≡ lengthsFault aevt avet eavt ⌝ }
+{
+    if aevt % WORDS != 0 {
+        return refuse(refusal::TABLE_LENGTH, 0);
+    }
+    if avet != aevt {
+        return refuse(refusal::TABLE_LENGTH, 0);
+    }
+    if eavt != aevt {
+        return refuse(refusal::TABLE_LENGTH, 0);
+    }
+    Verdict::Fine
+}
+
+// Whether each row comes before the next.
+fn is_ascending(table: &[u64]) -> bool
+    ensures { λ r. ⌜ r ≡ ascending (rowsOf (now (table .entry))) ⌝ }
+{
+    let count = table.len() / WORDS;
+    let mut i = 1;
+    while i < count {
+        let first = table[WORDS * i];
+        let second = table[WORDS * i + 1];
+        let third = table[WORDS * i + 2];
+        if !passes(table, i - 1, KEY_WORDS, first, second, third, false) {
+            return false;
+        }
+        i += 1;
+    }
+    true
+}
+
+// 3: the first row of aevt whose triple is missing in avet or eavt. These two are ascending, so each is searched by halves.
+fn check_missing(aevt: &[u64], avet: &[u64], eavt: &[u64]) -> Verdict
+    requires { ⌜ (ascending (rowsOf (now avet)) ≡ true) × (ascending (rowsOf (now eavt)) ≡ true) ⌝ }
+    ensures { λ r. ⌜ r ≡ missingFault (rowsOf (now (avet .entry))) (rowsOf (now (eavt .entry))) (rowsOf (now (aevt .entry))) 0 ⌝ }
+{
+    let count = aevt.len() / WORDS;
+    let mut i = 0;
+    while i < count {
+        let attribute = aevt[WORDS * i];
+        let entity = aevt[WORDS * i + 1];
+        let value = aevt[WORDS * i + 2];
+        if !is_row(avet, attribute, value, entity) {
+            return refuse(refusal::TABLE_MISSING, i);
+        }
+        if !is_row(eavt, entity, attribute, value) {
+            return refuse(refusal::TABLE_MISSING, i);
+        }
+        i += 1;
+    }
+    Verdict::Fine
+}
+
+// Whether a row of these words is in the table.
+pub fn is_row(table: &[u64], first: u64, second: u64, third: u64) -> bool
+    ensures { λ r. ⌜ (ascending (rowsOf (now (table .entry))) ≡ true → r ≡ isAmong (first ∷ second ∷ third ∷ []) (rowsOf (now (table .entry)))) ⌝ }
+{
+    let i = bound(table, 0, KEY_WORDS, first, second, third, false);
+    if i < table.len() / WORDS {
+        passes(table, i, KEY_WORDS, first, second, third, true)
+    } else {
+        false
+    }
+}
+
+// The rows that begin with the key, the first `inputs` of the three words, as a part of the table that starts in its middle.
+pub fn range<'a>(table: &'a [u64], inputs: usize, first: u64, second: u64, third: u64) -> &'a [u64]
+    ensures { λ r. ⌜ (ascending (rowsOf (now (table .entry))) ≡ true →
+        now r ≡ flat (map (row (now (table .entry))) (matching (now (table .entry)) (key inputs first second third)))) ⌝ }
+{
+    let low = bound(table, 0, inputs, first, second, third, false);
+    let high = bound(table, low, inputs, first, second, third, true);
+    let from = WORDS * low;
+    let to = WORDS * high;
+    &table[from..to]
+}
+
+// By halves: the first row from `from` on that does not come before the key, or, with `past`, that comes after all rows that begin
+// with it.
+pub fn bound(
+    table: &[u64],
+    from: usize,
+    inputs: usize,
+    first: u64,
+    second: u64,
+    third: u64,
+    past: bool,
+) -> usize
+    ensures { λ r. ⌜ Bound (now (table .entry)) from (key inputs first second third) past r ⌝ }
+{
+    let mut low = from;
+    let mut high = table.len() / WORDS;
+    while low < high {
+        let middle = low + (high - low) / 2;
+        if passes(table, middle, inputs, first, second, third, past) {
+            low = middle + 1;
+        } else {
+            high = middle;
+        }
+    }
+    low
+}
+
+// Whether row i comes before the key or, with `past`, begins with it. There is no largest key: 2^64 - 1 is a word like others.
+fn passes(
+    table: &[u64],
+    i: usize,
+    inputs: usize,
+    first: u64,
+    second: u64,
+    third: u64,
+    past: bool,
+) -> bool
+    requires { ⌜ i < count (now table) ⌝ }
+    ensures { λ r. ⌜ r ≡ passes past (row (now (table .entry)) i) (key inputs first second third) ⌝ }
+{
+    if inputs == 0 {
+        return past;
+    }
+    let word = table[WORDS * i];
+    if word != first {
+        return word < first;
+    }
+    if inputs == 1 {
+        return past;
+    }
+    let word = table[WORDS * i + 1];
+    if word != second {
+        return word < second;
+    }
+    if inputs == 2 {
+        return past;
+    }
+    let word = table[WORDS * i + 2];
+    if word != third {
+        return word < third;
+    }
+    past
+}

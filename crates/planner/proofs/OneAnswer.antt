@@ -1,0 +1,9 @@
+-- No second answer fits the promise of `plan`.
+use mathlib.Core.Path.{_≡_}
+use Rattle.refusal.proofs.OneAnswer.{one-answer}
+use Rattle.query.specs.declared.Query.{Query}
+use Rattle.planner.specs.declared.Planned.{Planned}
+use Rattle.planner.specs.Planning.{planOf}
+
+pub plan-one : (q : Query) (r r′ : Planned) → r ≡ planOf q → r′ ≡ planOf q → r ≡ r′
+plan-one q r r′ = one-answer

@@ -1,0 +1,9 @@
+pub mod Order
+pub mod Table
+pub mod Search
+pub mod Matching
+pub mod Among
+pub mod Pigeonhole
+pub mod SameFacts
+pub mod Promises
+pub mod OneAnswer

@@ -1,0 +1,1 @@
+// Laws only: what a plan visits over tables, and the rows that it yields.
