@@ -7,12 +7,168 @@
 
 // Port of `next_scan` and `Planner::next` of src/planner.rs to Rattle, changed: `next` takes the plan and hands it back, and what the
 // Rust panics on is refused with a number.
+use capacity::MAX_SCANS;
+use plan::Flow;
+use plan::Index;
 use plan::Plan;
+use plan::Scan;
 use refusal::Verdict;
+ghost use mathlib.Core.Path.{_≡_};
+ghost use mathlib.Core.List.{_++_};
+ghost use Prim.Native.Nat.{_≤_};
+ghost use lib.ListN.{take, drop};
+ghost use Rattle.capacity.specs.Capacity.{maxScans};
+ghost use Rattle.listing.specs.Next.{nextIndex, isNewIndex, nextScan, nextScans, isNewScans, nextOf};
 
 // The answer of `next`: whether it is new, and the plan; where it is refused, the plan as it was given.
 pub struct NextPlan {
     pub verdict: Verdict,
     pub is_new: bool,
     pub plan: Plan,
+}
+
+// The answer of `next_scan`: the scan, and whether it is new.
+pub struct NextScan {
+    pub scan: Scan,
+    pub is_new: bool,
+}
+
+// The same for the scans of a plan.
+struct NextScans {
+    scans: [Scan; MAX_SCANS],
+    is_new: bool,
+}
+
+// Advance to the next alternative of the plan.
+//
+// Says whether a new plan was generated. Says no when all plans have been exhausted; the initial plan then stands again.
+pub fn next(plan: Plan) -> NextPlan
+    ensures { λ r. ⌜ r ≡ nextOf plan ⌝ }
+{
+    let verdict = plan::check_flows(plan);
+    if let Verdict::Refused(_) = verdict {
+        return NextPlan {
+            verdict,
+            is_new: false,
+            plan,
+        };
+    }
+    let scans = plan.scans;
+    let stepped = next_scans(scans, plan.scan_count);
+    let advanced = stepped.scans;
+    let mut next_plan = plan;
+    next_plan.scans = advanced;
+    NextPlan {
+        verdict: Verdict::Fine,
+        is_new: stepped.is_new,
+        plan: next_plan,
+    }
+}
+
+// Advance the scans that count, up to the first that is new; the others stay as they are.
+fn next_scans(scans: [Scan; MAX_SCANS], scan_count: usize) -> NextScans
+    requires { ⌜ «scan_count» ≤ maxScans ⌝ }
+    ensures { λ r. ⌜ r ≡ record { scans = nextScans (take «scan_count» scans) ++ drop «scan_count» scans; «is_new» = isNewScans (take «scan_count» scans) } ⌝ }
+{
+    let mut scans = scans;
+    let mut i_scan = 0;
+    while i_scan < scan_count {
+        let scan = scans[i_scan];
+        let next = next_scan(scan);
+        let advanced = next.scan;
+        scans[i_scan] = advanced;
+        if next.is_new {
+            // The altered scan is one that we had not seen before. Therefore, the plan is also a new one. Return that.
+            return NextScans {
+                scans,
+                is_new: true,
+            };
+        }
+
+        // If the scan is not new, then we cycled back to the initial scan. But we can still try to cycle a different scan, in
+        // the next iteration. And for that different value, we can then try all options for the earlier scans too.
+        i_scan += 1;
+    }
+
+    // If we ended up here, we tried incrementing every scan, but all of them cycled back to the initial one, which means we
+    // have exhausted all options.
+    NextScans {
+        scans,
+        is_new: false,
+    }
+}
+
+// A different scan that fills the same slots.
+//
+// Says yes when incremented to a new scan in the cycle, and no when we cycled back to the initial scan.
+pub fn next_scan(scan: Scan) -> NextScan
+    ensures { λ r. ⌜ r ≡ record { scan = nextScan scan; «is_new» = isNewIndex (scan .flow) (scan .index) } ⌝ }
+{
+    let flow = scan.flow;
+    let index = scan.index;
+    let entity = scan.entity;
+    let attribute = scan.attribute;
+    let value = scan.value;
+    NextScan {
+        scan: Scan {
+            index: next_index(flow, index),
+            flow,
+            entity,
+            attribute,
+            value,
+        },
+        is_new: is_new_index(flow, index),
+    }
+}
+
+// The next index of the cycle.
+fn next_index(flow: Flow, index: Index) -> Index
+    ensures { λ r. ⌜ r ≡ nextIndex flow index ⌝ }
+{
+    match flow {
+        // For out-out, we can use the attribute-leading indexes. Using eavt for out-out is invalid, and `next` refuses it.
+        Flow::OutOut => match index {
+            Index::Aevt => Index::Avet,
+            Index::Avet => Index::Aevt,
+            Index::Eavt => Index::Eavt,
+        },
+
+        // For in-in, we can use all three indexes.
+        Flow::InIn => match index {
+            Index::Aevt => Index::Avet,
+            Index::Avet => Index::Eavt,
+            Index::Eavt => Index::Aevt,
+        },
+
+        // For in-out, we need to keep the slot that is the input (either the entity or the value) the input, and the other one
+        // the output. There are two cycles here, one of length 2, and one of length 1.
+        Flow::InOut => match index {
+            Index::Aevt => Index::Eavt,
+            Index::Eavt => Index::Aevt,
+            Index::Avet => Index::Avet,
+        },
+    }
+}
+
+// Whether that is a new one, and not the first of the cycle again.
+fn is_new_index(flow: Flow, index: Index) -> bool
+    ensures { λ r. ⌜ r ≡ isNewIndex flow index ⌝ }
+{
+    match flow {
+        Flow::OutOut => match index {
+            Index::Aevt => true,
+            Index::Avet => false,
+            Index::Eavt => false,
+        },
+        Flow::InIn => match index {
+            Index::Aevt => true,
+            Index::Avet => true,
+            Index::Eavt => false,
+        },
+        Flow::InOut => match index {
+            Index::Aevt => true,
+            Index::Eavt => false,
+            Index::Avet => false,
+        },
+    }
 }
