@@ -16,66 +16,11 @@ use plan::Slot;
 use plan::SlotDefinition;
 use plan::SlotRecord;
 use refusal::Verdict;
-ghost use Prim.Native.Nat.{_≤_};
-
-// A number that was read, and where to read on.
-struct Number {
-    value: u64,
-    next: usize,
-}
 
 // A plan on the way, and where to read on.
 struct Reading {
     plan: Plan,
     next: usize,
-}
-
-fn is_digit(b: u8) -> bool {
-    48 <= b && b <= 57
-}
-
-// The number with one more digit; one that would not fit stays as it is.
-fn with_digit(value: u64, b: u8) -> u64 {
-    let d = (b % 48) as u64;
-    if value <= (18446744073709551615 - d) / 10 {
-        value * 10 + d
-    } else {
-        value
-    }
-}
-
-// The next place of a digit.
-fn skip(text: &[u8], start: usize) -> usize
-    ensures { λ r. ⌜ start ≤ r ⌝ }
-{
-    let mut at = start;
-    while at < text.len() {
-        if is_digit(text[at]) {
-            return at;
-        }
-        at += 1;
-    }
-    at
-}
-
-// The number whose digits begin at a place.
-fn digits(text: &[u8], start: usize) -> Number {
-    let mut value: u64 = 0;
-    let mut at = start;
-    while at < text.len() {
-        let b = text[at];
-        if is_digit(b) {
-            value = with_digit(value, b);
-        } else {
-            return Number { value, next: at };
-        }
-        at += 1;
-    }
-    Number { value, next: at }
-}
-
-fn number_at(text: &[u8], start: usize) -> Number {
-    digits(text, skip(text, start))
 }
 
 fn slot(value: u64) -> Slot {
@@ -107,11 +52,11 @@ fn definition_of(is_constant: u64, value: u64) -> SlotDefinition {
 }
 
 fn with_scan(text: &[u8], reading: Reading, i: usize) -> Reading {
-    let index = number_at(text, reading.next);
-    let flow = number_at(text, index.next);
-    let entity = number_at(text, flow.next);
-    let attribute = number_at(text, entity.next);
-    let value = number_at(text, attribute.next);
+    let index = numbers::number_at(text, reading.next);
+    let flow = numbers::number_at(text, index.next);
+    let entity = numbers::number_at(text, flow.next);
+    let attribute = numbers::number_at(text, entity.next);
+    let value = numbers::number_at(text, attribute.next);
     let mut plan = reading.plan;
     if i < MAX_SCANS {
         plan.scans[i] = Scan {
@@ -129,8 +74,8 @@ fn with_scan(text: &[u8], reading: Reading, i: usize) -> Reading {
 }
 
 fn with_slot(text: &[u8], reading: Reading, i: usize) -> Reading {
-    let is_constant = number_at(text, reading.next);
-    let value = number_at(text, is_constant.next);
+    let is_constant = numbers::number_at(text, reading.next);
+    let value = numbers::number_at(text, is_constant.next);
     let mut plan = reading.plan;
     if i < MAX_SLOTS {
         plan.slots[i] = SlotRecord {
@@ -144,7 +89,7 @@ fn with_slot(text: &[u8], reading: Reading, i: usize) -> Reading {
 }
 
 fn with_select(text: &[u8], reading: Reading, i: usize) -> Reading {
-    let value = number_at(text, reading.next);
+    let value = numbers::number_at(text, reading.next);
     let mut plan = reading.plan;
     if i < MAX_SELECTS {
         plan.select[i] = slot(value.value);
@@ -187,12 +132,12 @@ fn with_selects(text: &[u8], start: Reading, count: u64) -> Reading {
 
 // The plan whose numbers begin at a place.
 fn read_plan(text: &[u8], start: usize) -> Reading {
-    let scan_count = number_at(text, start);
-    let slot_count = number_at(text, scan_count.next);
-    let select_count = number_at(text, slot_count.next);
-    let scans = number_at(text, select_count.next);
-    let slots = number_at(text, scans.next);
-    let selects = number_at(text, slots.next);
+    let scan_count = numbers::number_at(text, start);
+    let slot_count = numbers::number_at(text, scan_count.next);
+    let select_count = numbers::number_at(text, slot_count.next);
+    let scans = numbers::number_at(text, select_count.next);
+    let slots = numbers::number_at(text, scans.next);
+    let selects = numbers::number_at(text, slots.next);
     let mut plan = Plan::empty();
     plan.scan_count = scan_count.value as usize;
     plan.slot_count = slot_count.value as usize;
@@ -237,7 +182,7 @@ fn put_answers(plan: Plan) {
 // The answers to all plans of a text.
 fn put_all(text: &[u8]) {
     let mut at: usize = 0;
-    while skip(text, at) < text.len() {
+    while numbers::skip(text, at) < text.len() {
         let reading = read_plan(text, at);
         let plan = reading.plan;
         put_answers(plan);

@@ -1,9 +1,10 @@
--- `digits` is safe and ends.
 use borrow.Author.Needs.{needs}
 use Prim.Native.Nat.{_-_}
 use lib.ListN.{length}
-use Rattle.plans.proofs.digits.Statement.{statement}
-use Rattle.plans.proofs.digits.Tie as tie
+use Rattle.numbers.proofs.digits.Statement.{statement}
+use Rattle.numbers.proofs.digits.Tie as tie
+
+-- `digits` is safe and ends.
 
 abbrev Inv-loop : tie.InvT-loop
 Inv-loop text start value₀ at₀ value at = Unit {0}

@@ -1,9 +1,10 @@
--- `skip` is safe and ends.
 use borrow.Author.Needs.{needs}
 use Prim.Native.Nat.{_≤_, _-_}
 use lib.ListN.{length}
-use Rattle.plans.proofs.skip.Statement.{statement}
-use Rattle.plans.proofs.skip.Tie as tie
+use Rattle.numbers.proofs.skip.Statement.{statement}
+use Rattle.numbers.proofs.skip.Tie as tie
+
+-- `skip` is safe and ends.
 
 abbrev Inv-loop : tie.InvT-loop
 Inv-loop text start at₀ at = start ≤ at
