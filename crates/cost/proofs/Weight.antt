@@ -1,5 +1,5 @@
 -- The weight of what is left of a plan's scans, one scan towards the front, and the room for it below 2 ^ 64.
-use mathlib.Core.Path.{_≡_, refl, sym, ap, _∙_}
+use mathlib.Core.Path.{_≡_, sym, ap, _∙_}
 use Prim.Native.Nat.{ℕ, zero, suc, _+_, _-_, _*_, _/_, _^_, _≤_, _<_}
 use mathlib.Core.List.{List, [], _∷_, _++_}
 use native.Mathlib.Nat.{le-refl, mul-comm, le-div-iff-mul-le, div-lt-iff-lt-mul}

@@ -27,13 +27,10 @@ sameIndex Eavt Avet = false
 sameIndex Eavt Eavt = true
 
 -- eavt goes by the entity slot, aevt and avet by the attribute
-abbrev pub keyBy : Index → ℕ → ℕ → ℕ
-keyBy Aevt entity attribute = attribute
-keyBy Avet entity attribute = attribute
-keyBy Eavt entity attribute = entity
-
-abbrev pub keyOf : Scan → ℕ
-keyOf s = keyBy (s .index) (s .entity .0) (s .attribute .0)
+abbrev pub sameBy : Index → Scan → Scan → Bool
+sameBy Aevt s b = eqb (s .attribute .0) (b .attribute .0)
+sameBy Avet s b = eqb (s .attribute .0) (b .attribute .0)
+sameBy Eavt s b = eqb (s .entity .0) (b .entity .0)
 
 -- an earlier scan is over the same index; one is, and with the same key
 unfoldable pub indexUsed : Index → List Scan → Bool
@@ -41,7 +38,7 @@ indexUsed x [] = false
 indexUsed x (b ∷ bs) = sameIndex x (b .index) || indexUsed x bs
 
 abbrev pub sameKey : Scan → Scan → Bool
-sameKey s b = sameIndex (s .index) (b .index) && eqb (keyOf s) (keyOf b)
+sameKey s b = sameIndex (s .index) (b .index) && sameBy (s .index) s b
 
 unfoldable pub keyUsed : Scan → List Scan → Bool
 keyUsed s [] = false

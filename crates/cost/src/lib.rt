@@ -19,7 +19,7 @@ ghost use Prim.Native.Nat.{_≤_, _<_};
 ghost use mathlib.Core.List.{[]};
 ghost use lib.ListN.{take};
 ghost use Rattle.capacity.specs.Capacity.{maxScans};
-ghost use Rattle.cost.specs.Cost.{sameIndex, keyOf, sameKey, penaltyFor, penaltyOf, itersOf, weighedFrom, costOf};
+ghost use Rattle.cost.specs.Cost.{sameIndex, sameKey, penaltyFor, penaltyOf, itersOf, weighedFrom, costOf};
 
 // The answer of `cost`: 0 where it is refused.
 pub struct Costed {
@@ -137,28 +137,20 @@ fn iters(flow: Flow, index: Index) -> u64
     }
 }
 
-// Whether an earlier scan uses the same part of the same index.
+// Whether an earlier scan uses the same part of the same index: eavt goes by the entity slot, the others by the attribute.
 fn same_key(scan: Scan, earlier: Scan) -> bool
     ensures { λ r. ⌜ r ≡ sameKey scan earlier ⌝ }
 {
     let index = scan.index;
     let used = earlier.index;
     if same_index(index, used) {
-        key(scan) == key(earlier)
+        match index {
+            Index::Aevt => scan.attribute.0 == earlier.attribute.0,
+            Index::Avet => scan.attribute.0 == earlier.attribute.0,
+            Index::Eavt => scan.entity.0 == earlier.entity.0,
+        }
     } else {
         false
-    }
-}
-
-// What a scan's locality goes by: the entity slot over eavt, else the attribute.
-fn key(scan: Scan) -> u64
-    ensures { λ r. ⌜ r ≡ keyOf scan ⌝ }
-{
-    let index = scan.index;
-    match index {
-        Index::Aevt => scan.attribute.0,
-        Index::Avet => scan.attribute.0,
-        Index::Eavt => scan.entity.0 as u64,
     }
 }
 

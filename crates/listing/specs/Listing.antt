@@ -9,7 +9,7 @@ use Rattle.plan.specs.declared.Index.{Index}
 use Rattle.plan.specs.declared.Index.the-variants.{Aevt, Avet, Eavt}
 use Rattle.plan.specs.declared.Flow.{Flow}
 use Rattle.plan.specs.declared.Flow.the-variants.{OutOut, InOut, InIn}
-use Rattle.listing.specs.Next.{nextScan, nextScans, isNewScans}
+use Rattle.listing.specs.Next.{nextScans, isNewScans}
 
 -- the cycle that begins with an index: out-out aevt, avet; in-in aevt, avet, eavt; in-out aevt, eavt; in-out avet alone. None begins elsewhere
 abbrev pub cycle : Flow → Index → List Index

@@ -1,5 +1,4 @@
 -- 01, "How a query becomes a plan": the cycles, and `next`.
-use Prim.Native.Nat.{ℕ, zero, suc}
 use mathlib.Core.List.{List, [], _∷_, _++_}
 use mathlib.Core.Bool.{Bool, true, false, cond}
 use lib.ListN.{drop}

@@ -1,6 +1,6 @@
 -- What one look at a position comes to: laws of `nextOf`, for the proof of `next_value` and for callers.
 use mathlib.Core.Path.{_≡_, refl, sym, ap, _∙_}
-use Prim.Native.Nat.{ℕ, zero, suc, _+_, _-_, _%_, _≤_, _<_}
+use Prim.Native.Nat.{ℕ, zero, suc, _+_, _-_, _≤_, _<_}
 use native.Mathlib.Numerals.{add-one}
 use native.Mathlib.Omega.{arith}
 use mathlib.Core.List.{List, [], _∷_, _++_, append-assoc}
@@ -12,7 +12,6 @@ use borrow.Author.Tests.{lt-ltb, le-ltb, ltb-false}
 use Rattle.refusal.specs.declared.Verdict.the-variants.{Fine}
 use Rattle.refusal.proofs.Fine.{refuse-fine}
 use Rattle.permutation.specs.declared.Permutations.{Permutations}
-use Rattle.permutation.specs.declared.Step.{Step}
 use Rattle.capacity.specs.Capacity.{maxElements}
 use Rattle.permutation.specs.Swaps.{elementsFault, stateOf, swapAt, given, noSwap, stopFrom, stopOf, cleared, stepAt, nextOf}
 

@@ -1,7 +1,7 @@
 -- 01, "Swaps and the search": what `new` and `next` of 005 answer, and the state after it.
 use Prim.Native.Nat.{ℕ, zero, suc, _+_, _-_, _%_}
 use mathlib.Core.List.{List, _++_}
-use mathlib.Core.Bool.{Bool, true, false, cond}
+use mathlib.Core.Bool.{true, false, cond}
 use lib.ListN.{getD, set, take, drop, replicate}
 use lib.Dec.{ltb, eqb}
 use Rattle.refusal.specs.declared.Verdict.{Verdict}

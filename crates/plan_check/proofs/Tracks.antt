@@ -10,7 +10,6 @@ use lib.Seq.{getD-take, getD-set-same, getD-set-other, append-snoc}
 use lib.Dec.{leb, eqb}
 use Rattle.lists.proofs.Walk.{walk-step, walk-end}
 use Rattle.refusal.specs.declared.Verdict.{Verdict}
-use Rattle.refusal.specs.declared.Verdict.the-variants.{Fine}
 use Rattle.refusal.specs.Verdict.{refuseIf, orElse}
 use Rattle.refusal.proofs.Fine.{or-else-assoc}
 use Rattle.plan.specs.declared.Slot.{Slot}

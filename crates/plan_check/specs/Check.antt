@@ -2,7 +2,7 @@
 -- or 24), then 25, 26.
 use Prim.Native.Nat.{ℕ, zero, suc, _+_}
 use mathlib.Core.List.{List, [], _∷_, _++_}
-use mathlib.Core.Bool.{Bool, true, false, not, _&&_, _||_}
+use mathlib.Core.Bool.{Bool, true, false, not, _||_}
 use lib.ListN.{length, getD}
 use lib.Dec.{leb, eqb}
 use Rattle.refusal.specs.declared.Verdict.{Verdict}

@@ -1,8 +1,8 @@
 -- What planning has where nothing is refused, and what `initialize_scans` then answers.
 use mathlib.Core.Path.{_≡_, refl}
-use Prim.Native.Nat.{ℕ, _+_, _≤_}
+use Prim.Native.Nat.{ℕ, _+_}
 use mathlib.Core.List.{List, []}
-use Rattle.capacity.specs.Capacity.{maxScans, maxSelects}
+use Rattle.capacity.specs.Capacity.{maxScans}
 use Rattle.refusal.specs.declared.Verdict.{Verdict}
 use Rattle.refusal.specs.declared.Verdict.the-variants.{Fine, Refused}
 use Rattle.refusal.specs.Verdict.{unless}
@@ -10,11 +10,10 @@ use Rattle.refusal.proofs.Fine.{or-fine}
 use Rattle.lists.specs.Padded.{padded}
 use Rattle.query.specs.declared.Statement.{Statement}
 use Rattle.query.specs.declared.Query.{Query}
-use Rattle.query.specs.Query.{statementsOf, selectsOf}
-use Rattle.query_check.specs.Refusals.{constants, statementsFault, selectsFault, unusedFault, capacityFault, variablesFault, queryFault}
+use Rattle.query.specs.Query.{statementsOf}
+use Rattle.query_check.specs.Refusals.{constants, statementsFault, capacityFault, variablesFault, queryFault}
 use Rattle.query_check.proofs.Capacity.{Fits, capacity-fine}
 use Rattle.plan.specs.Plan.{zeroScan}
-use Rattle.planner.specs.declared.Initialized.{Initialized}
 use Rattle.planner.specs.Refusals.{boundTwiceFault}
 use Rattle.planner.specs.Planning.{scansFor, notInitialized, initializedOf}
 use Rattle.planner.specs.Record.{Plannable}

@@ -1,8 +1,8 @@
 -- One statement more: what it adds to the names, the constants, the slots and the scans of those before it.
 use mathlib.Core.Path.{_≡_, refl, sym, ap, _∙_}
-use Prim.Native.Nat.{ℕ, zero, suc, _+_, _-_, _≤_}
+use Prim.Native.Nat.{ℕ, suc, _+_, _-_, _≤_}
 use mathlib.Core.List.{List, [], _∷_, _++_, append-assoc, append-nil}
-use mathlib.Core.Bool.{Bool, _||_, or-false, or-assoc}
+use mathlib.Core.Bool.{_||_, or-false, or-assoc}
 use native.Mathlib.Nat.{add-assoc, add-zero}
 use native.Mathlib.Omega.{arith}
 use lib.ListN.{length, take, drop, length-append}
@@ -13,7 +13,6 @@ use Rattle.query.specs.declared.Statement.{Statement}
 use Rattle.query.specs.Query.{names, named}
 use Rattle.query_check.specs.Refusals.{constantsIn, constants}
 use Rattle.plan.specs.declared.Scan.{Scan}
-use Rattle.plan.specs.declared.SlotRecord.{SlotRecord}
 use Rattle.planner.specs.Planning.{constantSlots, slotsOfConstants, scanOf, scansFor}
 
 pub named-more : (l : List Statement) (s : Statement) (v : ℕ) → named (l ++ (s ∷ [])) v ≡ (named l v || names s v)

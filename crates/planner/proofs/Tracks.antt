@@ -12,7 +12,7 @@ use Rattle.capacity.specs.Capacity.{maxSlots}
 use Rattle.query.specs.declared.QueryValue.{QueryValue}
 use Rattle.query.specs.declared.QueryValue.the-variants.{Const, Var as Variable}
 use Rattle.query.specs.declared.Statement.{Statement}
-use Rattle.query.specs.Query.{isVariable, names, named}
+use Rattle.query.specs.Query.{isVariable, named}
 use Rattle.query_check.specs.Below.{ValueBelow, Below}
 use Rattle.planner.specs.Refusals.{bindsTwice}
 use Rattle.planner.specs.Planning.{isValueSet, scanOf}

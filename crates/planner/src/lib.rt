@@ -108,26 +108,26 @@ fn initialize_scans(
     // need to plan).
     let mut slot_initialized = [false; MAX_SLOTS];
     let mut scans = [ZERO_SCAN; MAX_SCANS];
-    let mut next_constant = variables;
+    let mut slot_count = variables;
     let mut i = 0;
     while i < count {
         let statement = items[i];
         if is_bound_twice(slot_initialized, statement) {
             return not_initialized(i);
         }
-        let scan = scan_for(slot_initialized, statement, next_constant);
+        let scan = scan_for(slot_initialized, statement, slot_count);
         scans[i] = scan;
         // The scan will initialize any uninitialized slots it references.
         let next = with_statement(slot_initialized, statement);
         slot_initialized = next;
         let value = statement.value;
-        next_constant += query_check::constants_in(value);
+        slot_count += query_check::constants_in(value);
         i += 1;
     }
     Initialized {
         verdict: Verdict::Fine,
         scans,
-        slot_count: next_constant,
+        slot_count,
     }
 }
 
@@ -171,9 +171,9 @@ fn is_bound_twice(slot_initialized: [bool; MAX_SLOTS], statement: Statement) -> 
 // Depending on what slots are initialized already, various index-flow combinations can be used to fill the remaining slots. When
 // there are multiple indexes that could fill the slot, we pick the first one, and later on, iterating plans will explore
 // alternatives.
-fn scan_for(slot_initialized: [bool; MAX_SLOTS], statement: Statement, next_constant: usize) -> Scan
-    requires { ⌜ «next_constant» < 2 ^ 16 ⌝ }
-    ensures { λ r. ⌜ r ≡ scanIn «slot_initialized» statement «next_constant» ⌝ }
+fn scan_for(slot_initialized: [bool; MAX_SLOTS], statement: Statement, slot_count: usize) -> Scan
+    requires { ⌜ «slot_count» < 2 ^ 16 ⌝ }
+    ensures { λ r. ⌜ r ≡ scanIn «slot_initialized» statement «slot_count» ⌝ }
 {
     let entity = statement.entity;
     let attribute = statement.attribute;
@@ -181,7 +181,7 @@ fn scan_for(slot_initialized: [bool; MAX_SLOTS], statement: Statement, next_cons
     let is_entity_init = is_set(slot_initialized, entity);
     let is_value_init = is_value_set(slot_initialized, value);
     let entity_slot = Slot(entity.0);
-    let value_slot = value_slot_of(value, next_constant);
+    let value_slot = value_slot_of(value, slot_count);
     first_scan(
         is_entity_init,
         is_value_init,
@@ -237,12 +237,12 @@ fn first_scan(
 }
 
 // The slot of a value, where a constant takes the next.
-fn value_slot_of(value: QueryValue, next_constant: usize) -> Slot
-    requires { ⌜ «next_constant» < 2 ^ 16 ⌝ }
-    ensures { λ r. ⌜ r ≡ valueSlot value «next_constant» ⌝ }
+fn value_slot_of(value: QueryValue, slot_count: usize) -> Slot
+    requires { ⌜ «slot_count» < 2 ^ 16 ⌝ }
+    ensures { λ r. ⌜ r ≡ valueSlot value «slot_count» ⌝ }
 {
     match value {
-        QueryValue::Const(_) => Slot(next_constant as u16),
+        QueryValue::Const(_) => Slot(slot_count as u16),
         QueryValue::Var(v) => Slot(v.0),
     }
 }
@@ -305,14 +305,14 @@ fn initialize_slots(
     let mut slots = [SlotRecord {
         definition: SlotDefinition::Variable,
     }; MAX_SLOTS];
-    let mut next_constant = variables;
+    let mut slot_count = variables;
     let mut i = 0;
     while i < count {
         let statement = items[i];
         let value = statement.value;
-        let next = with_constant(slots, next_constant, value);
+        let next = with_constant(slots, slot_count, value);
         slots = next;
-        next_constant += query_check::constants_in(value);
+        slot_count += query_check::constants_in(value);
         i += 1;
     }
     slots
@@ -321,16 +321,16 @@ fn initialize_slots(
 // A constant takes the next slot.
 fn with_constant(
     slots: [SlotRecord; MAX_SLOTS],
-    next_constant: usize,
+    slot_count: usize,
     value: QueryValue,
 ) -> [SlotRecord; MAX_SLOTS]
-    ensures { λ r. ⌜ r ≡ constantIn slots «next_constant» value ⌝ }
+    ensures { λ r. ⌜ r ≡ constantIn slots «slot_count» value ⌝ }
 {
     match value {
         QueryValue::Const(constant) => {
-            if next_constant < MAX_SLOTS {
+            if slot_count < MAX_SLOTS {
                 let mut next = slots;
-                next[next_constant] = SlotRecord {
+                next[slot_count] = SlotRecord {
                     definition: SlotDefinition::Constant(constant),
                 };
                 next

@@ -1,7 +1,7 @@
 -- 01, "What crosses the counter": a query's statements and selects, and the variables that statements name.
 use Prim.Native.Nat.{ℕ}
 use mathlib.Core.List.{List, [], _∷_}
-use mathlib.Core.Bool.{Bool, true, false, _||_}
+use mathlib.Core.Bool.{Bool, false, _||_}
 use lib.ListN.{take}
 use lib.Dec.{eqb}
 use Rattle.query.specs.declared.Var.{Var}

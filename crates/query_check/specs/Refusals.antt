@@ -1,7 +1,7 @@
 -- 01, "Refusal numbers": what planning and the search refuse of a query, 10 to 15 ascending, within a number the lowest place.
 use Prim.Native.Nat.{ℕ, zero, suc, _+_}
 use mathlib.Core.List.{List, [], _∷_}
-use mathlib.Core.Bool.{Bool, true, false, not, _||_}
+use mathlib.Core.Bool.{Bool, false, not, _||_}
 use lib.Dec.{ltb, leb, eqb}
 use Rattle.capacity.specs.Capacity.{maxStatements, maxSlots, maxSelects}
 use Rattle.refusal.specs.declared.Verdict.{Verdict}

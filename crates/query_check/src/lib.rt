@@ -80,7 +80,7 @@ fn check_variables(
     select_count: usize,
     chosen: [Var; MAX_SELECTS],
 ) -> Verdict
-    requires { ⌜ («statement_count» ≤ maxStatements) × («select_count» ≤ maxSelects) ⌝ }
+    requires { ⌜ («statement_count» ≤ maxStatements) × («select_count» ≤ maxSelects) × (variables ≤ maxSlots) ⌝ }
     ensures { λ r. ⌜ r ≡ variablesFault variables «statement_count» (take «statement_count» items) (take «select_count» chosen) ⌝ }
 {
     let statements = check_statements(items, statement_count, variables);
@@ -173,12 +173,12 @@ fn check_selects(
 
 // 15: the lowest variable that no statement names.
 fn check_all_named(items: [Statement; MAX_STATEMENTS], count: usize, variables: usize) -> Verdict
-    requires { ⌜ count ≤ maxStatements ⌝ }
+    requires { ⌜ (count ≤ maxStatements) × (variables ≤ maxSlots) ⌝ }
     ensures { λ r. ⌜ r ≡ unusedFault (take count items) variables 0 ⌝ }
 {
     let mut v = 0;
     while v < variables {
-        if is_named(items, count, v) {
+        if is_named(items, count, Var(v as u16)) {
             v += 1;
         } else {
             return refuse(refusal::UNUSED_VARIABLE, v);
@@ -188,9 +188,9 @@ fn check_all_named(items: [Statement; MAX_STATEMENTS], count: usize, variables: 
 }
 
 // Whether one of the first statements names a variable.
-fn is_named(items: [Statement; MAX_STATEMENTS], count: usize, v: usize) -> bool
+fn is_named(items: [Statement; MAX_STATEMENTS], count: usize, v: Var) -> bool
     requires { ⌜ count ≤ maxStatements ⌝ }
-    ensures { λ r. ⌜ r ≡ named (take count items) v ⌝ }
+    ensures { λ r. ⌜ r ≡ named (take count items) (v .0) ⌝ }
 {
     let mut i = 0;
     while i < count {
@@ -203,15 +203,15 @@ fn is_named(items: [Statement; MAX_STATEMENTS], count: usize, v: usize) -> bool
     false
 }
 
-fn names_variable(statement: Statement, v: usize) -> bool
-    ensures { λ r. ⌜ r ≡ names statement v ⌝ }
+fn names_variable(statement: Statement, v: Var) -> bool
+    ensures { λ r. ⌜ r ≡ names statement (v .0) ⌝ }
 {
     let value = statement.value;
-    if statement.entity.0 as usize == v {
+    if statement.entity.0 == v.0 {
         return true;
     }
     match value {
         QueryValue::Const(_) => false,
-        QueryValue::Var(x) => x.0 as usize == v,
+        QueryValue::Var(x) => x.0 == v.0,
     }
 }

@@ -1,11 +1,7 @@
 -- 01's bench: triples (1,5,10) (1,5,11) (2,5,11) (10,9,6) (11,9,7): E yields rows 11, 11.
 use mathlib.Core.Path.{_≡_, refl}
-use Prim.Native.Nat.{ℕ}
-use mathlib.Core.List.{List, [], _∷_}
+use mathlib.Core.List.{[], _∷_}
 use Rattle.tables.specs.Rows.{row, span, begins, keep, matching}
-use Rattle.plan.specs.declared.Scan.{Scan}
-use Rattle.plan.specs.declared.Slot.{Slot}
-use Rattle.plan.specs.declared.SlotRecord.{SlotRecord}
 use Rattle.plan.specs.declared.SlotDefinition.the-variants.{Variable, Constant}
 use Rattle.plan.specs.declared.Plan.{Plan}
 use Rattle.plan.specs.declared.Index.the-variants.{Aevt}

@@ -1,6 +1,6 @@
 -- 01, "Tables and rows": a call asks for rows from number k on, and gets as many whole rows as fit in the lent row buffer.
-use Prim.Native.Nat.{ℕ, _*_, _/_, _<_}
-use mathlib.Core.List.{List, [], _∷_, _++_}
+use Prim.Native.Nat.{ℕ, _/_}
+use mathlib.Core.List.{List, _++_}
 use mathlib.Core.Bool.{Bool}
 use lib.ListN.{length, take, drop}
 use lib.Dec.{ltb}

@@ -1,10 +1,10 @@
 -- `cost_of_scans` meets its contract: at every turn the number is the weight of the scans gone through, and none of them has passed.
-use mathlib.Core.Path.{_≡_, sym, ap, _∙_}
+use mathlib.Core.Path.{_≡_, _∙_}
 use Prim.Native.Nat.{_≤_, _<_, _-_, _+_, _*_, _^_}
 use native.Mathlib.Omega.{arith}
 use borrow.Author.Needs.{needs}
 use borrow.Author.Tests.{le-leb, lt-leb}
-use lib.ListN.{length, getD, take}
+use lib.ListN.{length, getD}
 use lib.Dec.{leb}
 use Rattle.capacity.specs.Capacity.{maxScans}
 use Rattle.refusal.specs.declared.Verdict.the-variants.{Fine}

@@ -39,7 +39,7 @@ more c =
 few : (c : tie.In-loop Inv μ) → c .before .loop .i < maxStatements
 few c = omega (arith, c .before .before .pre .few-statements)
 
-room : (c : tie.In-loop Inv μ) → c .before .loop .next-constant + constantsIn (statementAt (c .before .before .args .t2) (c .before .loop .i) .value) ≤ maxSlots
+room : (c : tie.In-loop Inv μ) → c .before .loop .slot-count + constantsIn (statementAt (c .before .before .args .t2) (c .before .loop .i) .value) ≤ maxSlots
 room c =
     let h : length (c .before .before .args .t2) ≡ maxStatements = search needs in
     begun-room _ _ _ (c .before .before .pre) h (c .before .loop .inv) (c .loop-test .taken)

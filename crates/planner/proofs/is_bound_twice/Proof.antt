@@ -1,5 +1,4 @@
 -- `is_bound_twice` meets its contract: a value that is the entity, and is not set.
-use mathlib.Core.Path.{_≡_, sym, _∙_}
 use borrow.Author.Needs.{needs}
 use borrow.Author.Tests.{eq-eqb, ne-eqb}
 use Rattle.planner.proofs.is_bound_twice.Statement.{statement}

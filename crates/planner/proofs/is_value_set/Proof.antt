@@ -1,5 +1,4 @@
 -- `is_value_set` meets its contract: constants are set.
-use mathlib.Core.Path.{_≡_, sym, _∙_}
 use borrow.Author.Needs.{needs}
 use Rattle.planner.proofs.is_value_set.Statement.{statement}
 use Rattle.planner.proofs.is_value_set.Tie as tie

@@ -1,5 +1,4 @@
 -- `not_initialized` meets its contract.
-use mathlib.Core.Path.{_≡_}
 use borrow.Author.Needs.{needs}
 use Rattle.planner.proofs.not_initialized.Statement.{statement}
 use Rattle.planner.proofs.not_initialized.Tie as tie

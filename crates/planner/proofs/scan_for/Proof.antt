@@ -1,5 +1,5 @@
 -- `scan_for` meets its contract: from what is set, the first scan of the cycle.
-use mathlib.Core.Path.{_≡_, sym, _∙_}
+use mathlib.Core.Path.{_∙_}
 use borrow.Author.Needs.{needs}
 use Rattle.planner.specs.Record.{scanIn}
 use Rattle.planner.proofs.scan_for.Statement.{statement}

@@ -1,11 +1,11 @@
 -- `select_slots` meets its contract: after i selects the slots are those of the first i.
-use mathlib.Core.Path.{_≡_, refl, sym, ap, _∙_}
-use Prim.Native.Nat.{_+_, _-_, _≤_, _<_}
-use mathlib.Core.List.{List, _∷_, [], _++_, map, map-append}
+use mathlib.Core.Path.{_≡_, sym, _∙_}
+use Prim.Native.Nat.{_-_, _≤_}
+use mathlib.Core.List.{map, map-append}
 use native.Mathlib.Numerals.{add-one}
 use native.Mathlib.Omega.{arith}
 use borrow.Author.Needs.{needs}
-use lib.ListN.{length, getD, set, take, length-map}
+use lib.ListN.{length, getD, take, length-map}
 use lib.Seq.{take-suc, length-take-le}
 use Rattle.capacity.specs.Capacity.{maxSelects}
 use Rattle.lists.specs.Padded.{padded}

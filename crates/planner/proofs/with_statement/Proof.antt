@@ -1,5 +1,4 @@
 -- `with_statement` meets its contract: the entity, then the value.
-use mathlib.Core.Path.{_≡_, sym, _∙_}
 use borrow.Author.Needs.{needs}
 use Rattle.planner.specs.Record.{statementRecord}
 use Rattle.planner.proofs.with_statement.Statement.{statement}

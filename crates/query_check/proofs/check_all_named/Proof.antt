@@ -46,6 +46,7 @@ check-all-named-spec =
     Inv
     μ
     (λ c. (omega arith, let e : c .args .variables - 0 ≡ c .args .variables = omega arith in rw e))
+    (λ c. search needs)
     (λ c κs. search needs)
     (λ c. search needs)
     (λ c. search needs)

@@ -1,5 +1,6 @@
 -- `check_query` meets its contract: the capacities' refusal, else the variables'.
 use mathlib.Core.Path.{_≡_, sym, _∙_}
+use native.Mathlib.Omega.{arith}
 use borrow.Author.Needs.{needs}
 use Rattle.refusal.specs.declared.Verdict.the-variants.{Fine}
 use Rattle.query.specs.Query.{statementsOf}
@@ -29,5 +30,5 @@ check-query-spec =
     (λ c. search needs)
     refused
     (λ c. search needs)
-    (λ c κs. let f = capacity-fine _ _ _ _ (fits (c .before)) in (f .few-statements, f .few-selects))
+    (λ c κs. let f = capacity-fine _ _ _ _ (fits (c .before)) in (f .few-statements, f .few-selects, omega (arith, f .few-slots)))
     variables)

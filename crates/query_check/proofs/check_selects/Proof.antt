@@ -1,5 +1,5 @@
 -- `check_selects` meets its contract: what is left from select i on gives the answer of the whole.
-use mathlib.Core.Path.{_≡_, refl, sym, _∙_}
+use mathlib.Core.Path.{_≡_, sym, _∙_}
 use Prim.Native.Nat.{_≤_, _-_, _+_}
 use mathlib.Core.List.{_∷_}
 use native.Mathlib.Nat.{add-zero, add-assoc}

@@ -1,5 +1,5 @@
 -- `check_variables` meets its contract: the first refusal of its three parts.
-use mathlib.Core.Path.{_≡_, sym, _∙_}
+use mathlib.Core.Path.{sym, _∙_}
 use borrow.Author.Needs.{needs}
 use Rattle.query_check.specs.Refusals.{variablesFault}
 use Rattle.query_check.proofs.check_variables.Statement.{statement}

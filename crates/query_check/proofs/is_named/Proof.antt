@@ -12,14 +12,14 @@ use Rattle.query_check.proofs.is_named.Statement.{statement}
 use Rattle.query_check.proofs.is_named.Tie as tie
 
 abbrev Inv : tie.InvT-loop
-Inv n v items i₀ i = (i ≤ n) × (named (take n items) v ≡ named (drop i (take n items)) v)
+Inv n v items i₀ i = (i ≤ n) × (named (take n items) (v .0) ≡ named (drop i (take n items)) (v .0))
 
 abbrev μ : tie.MeasureT-loop
 μ n v items i₀ i = n - i
 
 turn : (c : tie.In-loop Inv μ) →
     let a = c .before .before .args in let i = c .before .loop .i in
-    named (take (a .count) (a .t1)) (a .v) ≡ named (getD (a .t1) i zeroStatement ∷ drop (i + 1) (take (a .count) (a .t1))) (a .v)
+    named (take (a .count) (a .t1)) (a .v .0) ≡ named (getD (a .t1) i zeroStatement ∷ drop (i + 1) (take (a .count) (a .t1))) (a .v .0)
 turn c =
     let a = c .before .before .args in
     let h : length (a .t1) ≡ maxStatements = search needs in
