@@ -1,6 +1,5 @@
 -- No candidate's cost passes 2^64 - 1: each scan multiplies the cost by 200 at the most.
-use mathlib.Core.Path.{_≡_, refl}
-use Prim.Native.Nat.{ℕ, zero, suc, _+_, _*_, _^_, _≤_, _<_}
+use Prim.Native.Nat.{zero, _+_, _^_, _≤_, _<_}
 use native.Mathlib.Nat.{mul-le-mul-right, pow-succ', pow-le-pow-right}
 use native.Mathlib.Omega.{arith}
 use mathlib.Core.List.{List, [], _∷_, _++_}
@@ -12,7 +11,7 @@ use Rattle.plan.specs.declared.Index.{Index}
 use Rattle.plan.specs.declared.Index.the-variants.{Aevt, Avet, Eavt}
 use Rattle.plan.specs.declared.Flow.{Flow}
 use Rattle.plan.specs.declared.Flow.the-variants.{OutOut, InOut, InIn}
-use Rattle.cost.specs.Cost.{penaltyFor, penaltyOf, indexUsed, keyUsed, itersOf, weight}
+use Rattle.cost.specs.Cost.{penaltyFor, indexUsed, keyUsed, itersOf, weight}
 
 penalty-most : (x : Index) (k i : Bool) → penaltyFor x k i ≤ 100
 penalty-most Aevt true i = omega arith

@@ -1,3 +1,4 @@
 pub mod Bench
 pub mod First
 pub mod Bounded
+pub mod Weighed

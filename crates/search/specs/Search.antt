@@ -17,7 +17,6 @@ use Rattle.query.specs.declared.Query.{Query}
 use Rattle.query.specs.Query.{statementsOf, selectsOf, zeroStatement}
 use Rattle.query_check.specs.Refusals.{queryFault}
 use Rattle.plan.specs.declared.Scan.{Scan}
-use Rattle.plan.specs.declared.Plan.{Plan}
 use Rattle.plan.specs.Plan.{emptyPlan}
 use Rattle.cost.specs.Cost.{weight}
 use Rattle.planner.specs.Refusals.{boundTwiceFault}
