@@ -14,6 +14,7 @@ use plan::Plan;
 use plan::Scan;
 use plan::Slot;
 use plan::SlotDefinition;
+use planner::Planned;
 use query::Query;
 use query::QueryValue;
 use query::Selects;
@@ -286,8 +287,37 @@ fn put_again(plan: Plan) {
     put_indexes(scans, plan.scan_count);
 }
 
+// The plan: over lent slices where a query has one select and one or two statements, or one too many; else by value.
+fn planned_of(query: Query) -> Planned {
+    let statements = query.where_statements;
+    let select = query.select;
+    let n = query.variable_count;
+    let items = statements.items;
+    let chosen = select.items;
+    let v = chosen[0];
+    let x = items[0];
+    let y = items[1];
+    if select.count == 1 {
+        if statements.count == 1 {
+            return lent::plan_one(n, [x], [v]);
+        }
+        if statements.count == 2 {
+            return lent::plan_pair(n, [x, y], [v]);
+        }
+        if statements.count == lent::ONE_TOO_MANY {
+            return lent::plan_too_many(n, [x; lent::ONE_TOO_MANY], [v]);
+        }
+    }
+    if select.count == 0 {
+        if statements.count == 1 {
+            return lent::plan_no_select(n, [x], []);
+        }
+    }
+    planner::plan(query)
+}
+
 fn put_answer(query: Query) {
-    let planned = planner::plan(query);
+    let planned = planned_of(query);
     let verdict = planned.verdict;
     let plan = planned.plan;
     match verdict {

@@ -1,0 +1,6 @@
+pub mod Read
+pub mod Reader
+pub mod Arrays
+pub mod Lender
+pub mod Agree
+pub mod OneAnswer

@@ -1,0 +1,25 @@
+-- `plan_one` meets its contract: it lends one statement and one select, and Lender.antt has the walk.
+-- Assumes nothing.
+use lib.Dec.{lit<}
+use contract.Running.{givenOf, tables, tablesOf}
+use denote.Triple.Spec.{tripleOf}
+use denote.Triple.Table.{entered, cited}
+use Rattle.lent.proofs.Lender.{Sized, Plan, lender-meets}
+use Rattle.lent.proofs.plan.Symbol as plan-def
+use Rattle.lent.proofs.plan.Symbol.{name as #plan}
+use Rattle.lent.proofs.plan.Met as plan-thm
+use Rattle.lent.proofs.plan_one.Key.{name as #plan-one}
+use Rattle.lent.proofs.plan_one as lender
+use Rattle.lent.proofs.plan_one.Statement as stated
+use Rattle.lent.proofs.plan_one.Code as code
+
+sized : Sized 1 1
+sized = record { n-fits = tt; m-fits = tt; n-room = (lit< tt, lit< tt); m-room = (lit< tt, lit< tt) }
+
+pub plan-one-spec : {M : Type 1} → stated.statement M
+unfolding code.routine tablesOf
+plan-one-spec 𝓤 H 𝓜 𝓖 𝓡 =
+    entered 𝓤 H (tripleOf 𝓤 H (𝓖 .A) lender.signature (lender.spec 𝓤 H (𝓖 .A) (𝓜 .mem) (𝓡 .run)))
+    (tables 𝓤 H 𝓜 𝓡 code.env .C) (tables 𝓤 H 𝓜 𝓡 code.env .Λ) #plan-one code.function (code.unfolded 𝓤 H 𝓜 𝓡)
+    (lender-meets 1 1 𝓤 H (𝓖 .A) (givenOf 𝓤 H 𝓜 𝓖) (𝓜 .mem) (𝓡 .run) sized (tablesOf 𝓤 H 𝓜 (tables 𝓤 H 𝓜 𝓡 code.env))
+    (cited 𝓤 H (Plan 𝓤 H (𝓖 .A) (𝓜 .mem) (𝓡 .run)) 𝓜 𝓡 code.env #plan plan-def.routine code.calls-lent·plan (plan-thm.met 𝓤 H 𝓜 𝓖 𝓡)))
