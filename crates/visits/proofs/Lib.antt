@@ -1,1 +1,5 @@
 pub mod Bench
+pub mod Nested
+pub mod Slots
+pub mod Steady
+pub mod Pending

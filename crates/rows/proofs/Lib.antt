@@ -1,0 +1,5 @@
+pub mod Advance
+pub mod Put
+pub mod Passing
+pub mod Fill
+pub mod Ends
