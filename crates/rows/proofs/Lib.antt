@@ -3,3 +3,4 @@ pub mod Put
 pub mod Passing
 pub mod Fill
 pub mod Ends
+pub mod OneAnswer

@@ -22,74 +22,6 @@ pub struct Shown {
     pub more: bool,
 }
 
-// Take the next visit of all scans. Returns whether there was one.
-fn next<'a>(
-    words: &[u64],
-    aevt: &'a [u64],
-    avet: &'a [u64],
-    eavt: &'a [u64],
-    initial: &[u64],
-    iters: &mut [usize],
-    slots: &mut [u64],
-) -> bool
-    requires { ⌜ Laid (now words) (length (now slots)) ⌝ }
-    requires { ⌜ Ascend (tablesOf (now aevt) (now avet) (now eavt)) ⌝ }
-    requires { ⌜ Ready (tablesOf (now aevt) (now avet) (now eavt)) (scansIn (now words)) (now initial) (now iters) (now slots) (innermost (scansIn (now words))) ⌝ }
-    ensures { λ r. ⌜ Advanced (tablesOf (now (aevt .entry)) (now (avet .entry)) (now (eavt .entry))) (scansIn (now (words .entry))) (now (initial .entry)) (now (iters .entry)) r (now (iters .exit)) (now (slots .exit)) ⌝ }
-{
-    let innermost_iter = words.len() / SCAN_WORDS - 1;
-    walk::increment(
-        innermost_iter,
-        words,
-        aevt,
-        avet,
-        eavt,
-        initial,
-        iters,
-        slots,
-    )
-}
-
-// Write the selected slots to the buffer, from `at` on.
-fn put_row(selects: &[u64], slots: &[u64], at: usize, rows: &mut [u64])
-    requires { ⌜ Named (now selects) (length (now slots)) ⌝ }
-    requires { ⌜ at + length (now selects) ≤ length (now rows) ⌝ }
-    ensures { λ r. ⌜ now (rows .exit) ≡ take at (now (rows .entry)) ++ selectedBy (now (selects .entry)) (now (slots .entry)) ++ drop (at + length (now (selects .entry))) (now (rows .entry)) ⌝ }
-{
-    let mut j = 0;
-    while j < selects.len() {
-        rows[at + j] = slots[selects[j] as usize];
-        j += 1;
-    }
-}
-
-// Pass over so many visits. Returns whether there were so many.
-fn skip<'a>(
-    count: u64,
-    words: &[u64],
-    aevt: &'a [u64],
-    avet: &'a [u64],
-    eavt: &'a [u64],
-    initial: &[u64],
-    iters: &mut [usize],
-    slots: &mut [u64],
-) -> bool
-    requires { ⌜ Laid (now words) (length (now slots)) ⌝ }
-    requires { ⌜ Ascend (tablesOf (now aevt) (now avet) (now eavt)) ⌝ }
-    requires { ⌜ Ready (tablesOf (now aevt) (now avet) (now eavt)) (scansIn (now words)) (now initial) (now iters) (now slots) (innermost (scansIn (now words))) ⌝ }
-    ensures { λ r. ⌜ Skipped (tablesOf (now (aevt .entry)) (now (avet .entry)) (now (eavt .entry))) (scansIn (now (words .entry))) (now (initial .entry)) (now (iters .entry)) count r (now (iters .exit)) (now (slots .exit)) ⌝ }
-{
-    // It counts down, so nothing overflows, however many visits there are.
-    let mut left = count;
-    while 0 < left {
-        if !next(words, aevt, avet, eavt, initial, iters, slots) {
-            return false;
-        }
-        left -= 1;
-    }
-    true
-}
-
 // Write the rows of the visits that are still to come, from number `from` on, as many as fit in the buffer.
 pub fn show<'a>(
     from: u64,
@@ -134,5 +66,73 @@ pub fn show<'a>(
     Shown {
         count: count,
         more: more,
+    }
+}
+
+// Pass over so many visits. Returns whether there were so many.
+fn skip<'a>(
+    count: u64,
+    words: &[u64],
+    aevt: &'a [u64],
+    avet: &'a [u64],
+    eavt: &'a [u64],
+    initial: &[u64],
+    iters: &mut [usize],
+    slots: &mut [u64],
+) -> bool
+    requires { ⌜ Laid (now words) (length (now slots)) ⌝ }
+    requires { ⌜ Ascend (tablesOf (now aevt) (now avet) (now eavt)) ⌝ }
+    requires { ⌜ Ready (tablesOf (now aevt) (now avet) (now eavt)) (scansIn (now words)) (now initial) (now iters) (now slots) (innermost (scansIn (now words))) ⌝ }
+    ensures { λ r. ⌜ Skipped (tablesOf (now (aevt .entry)) (now (avet .entry)) (now (eavt .entry))) (scansIn (now (words .entry))) (now (initial .entry)) (now (iters .entry)) count r (now (iters .exit)) (now (slots .exit)) ⌝ }
+{
+    // It counts down, so nothing overflows, however many visits there are.
+    let mut left = count;
+    while 0 < left {
+        if !next(words, aevt, avet, eavt, initial, iters, slots) {
+            return false;
+        }
+        left -= 1;
+    }
+    true
+}
+
+// Take the next visit of all scans. Returns whether there was one.
+fn next<'a>(
+    words: &[u64],
+    aevt: &'a [u64],
+    avet: &'a [u64],
+    eavt: &'a [u64],
+    initial: &[u64],
+    iters: &mut [usize],
+    slots: &mut [u64],
+) -> bool
+    requires { ⌜ Laid (now words) (length (now slots)) ⌝ }
+    requires { ⌜ Ascend (tablesOf (now aevt) (now avet) (now eavt)) ⌝ }
+    requires { ⌜ Ready (tablesOf (now aevt) (now avet) (now eavt)) (scansIn (now words)) (now initial) (now iters) (now slots) (innermost (scansIn (now words))) ⌝ }
+    ensures { λ r. ⌜ Advanced (tablesOf (now (aevt .entry)) (now (avet .entry)) (now (eavt .entry))) (scansIn (now (words .entry))) (now (initial .entry)) (now (iters .entry)) r (now (iters .exit)) (now (slots .exit)) ⌝ }
+{
+    let innermost_iter = words.len() / SCAN_WORDS - 1;
+    walk::increment(
+        innermost_iter,
+        words,
+        aevt,
+        avet,
+        eavt,
+        initial,
+        iters,
+        slots,
+    )
+}
+
+// Write the selected slots to the buffer, from `at` on.
+fn put_row(selects: &[u64], slots: &[u64], at: usize, rows: &mut [u64])
+    requires { ⌜ Named (now selects) (length (now slots)) ⌝ }
+    requires { ⌜ at + length (now selects) ≤ length (now rows) ⌝ }
+    ensures { λ r. ⌜ now (rows .exit) ≡ take at (now (rows .entry)) ++ selectedBy (now (selects .entry)) (now (slots .entry)) ++ drop (at + length (now (selects .entry))) (now (rows .entry)) ⌝ }
+{
+    let mut j = 0;
+    while j < selects.len() {
+        rows[at + j] = slots[selects[j] as usize];
+        j += 1;
     }
 }

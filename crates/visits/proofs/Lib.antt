@@ -1,5 +1,6 @@
 pub mod Bench
 pub mod Nested
+pub mod Stood
 pub mod Slots
 pub mod Steady
 pub mod Pending

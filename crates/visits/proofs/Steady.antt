@@ -18,7 +18,8 @@ use Rattle.plan.specs.declared.Access.the-variants.{Reads, Writes}
 use Rattle.plan.specs.Plan.{firstSlot, secondSlot, firstAccess, secondAccess, zeroScan, scansOf, slotsOf}
 use Rattle.plan_check.specs.Check.{writesTo, firstWrites, secondWrites, written, isSet}
 use Rattle.plan_check.specs.Promised.{Rightly, Fits, Promised}
-use Rattle.visits.proofs.Slots.{Sound, neither}
+use Rattle.visits.proofs.Stood.{neither}
+use Rattle.visits.proofs.Slots.{Sound}
 
 -- what some scans and then others write
 written-append : (before after : List Scan) (k : ℕ) → written (before ++ after) k ≡ (written before k || written after k)

@@ -9,7 +9,8 @@ use Rattle.plan.specs.declared.Scan.{Scan}
 use Rattle.plan.specs.declared.Index.{Index}
 use Rattle.plan.specs.Plan.{firstSlot, secondSlot, zeroScan}
 use Rattle.visits.specs.Visits.{Tables, tableOf, rowFor, inputs, wanted}
-use Rattle.visits.proofs.Slots.{Agree, stood}
+use Rattle.visits.proofs.Stood.{stood}
+use Rattle.visits.proofs.Slots.{Agree}
 use Rattle.visits.proofs.Pending.{iterWords, position, ending, current, currentSlots, pending}
 
 abbrev pub tablesOf : List ℕ → List ℕ → List ℕ → Tables

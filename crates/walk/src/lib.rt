@@ -36,69 +36,6 @@ pub struct Iter {
     pub end: usize,
 }
 
-// Return the positions that determine the range to scan over: those of the rows that begin with the key, the first `inputs`
-// of the three words. There is no largest datom here, so the range of the key 2^64 - 1 is found too.
-fn get_scan_bounds(table: &[u64], inputs: usize, first: u64, second: u64, third: u64) -> Iter
-    ensures { λ r. ⌜ Found (now (table .entry)) (key inputs first second third) (r .position) (r .end) ⌝ }
-{
-    let position = tables::bound(table, 0, inputs, first, second, third, false);
-    let end = tables::bound(table, position, inputs, first, second, third, true);
-    Iter {
-        position: position,
-        end: end,
-    }
-}
-
-// The table with this number.
-pub fn get_table<'a>(aevt: &'a [u64], avet: &'a [u64], eavt: &'a [u64], number: u64) -> &'a [u64]
-    ensures { λ r. ⌜ now r ≡ tableOf (tablesOf (now (aevt .entry)) (now (avet .entry)) (now (eavt .entry))) (indexOf number) ⌝ }
-{
-    if number == AEVT {
-        return aevt;
-    }
-    if number == AVET {
-        return avet;
-    }
-    eavt
-}
-
-// Given the current slot values, produce the iterator for scan i, which runs over this table.
-pub fn get_iter(i: usize, words: &[u64], table: &[u64], slots: &[u64]) -> Iter
-    requires { ⌜ LiesAt (now words) (length (now slots)) i ⌝ }
-    ensures { λ r. ⌜ Found (now (table .entry)) (keyOf (getD (scansIn (now (words .entry))) i zeroScan) (now (slots .entry))) (r .position) (r .end) ⌝ }
-{
-    let number = words[SCAN_WORDS * i];
-    let inputs = words[SCAN_WORDS * i + 1] as usize + 1;
-    let attribute = words[SCAN_WORDS * i + 2];
-    let first = slots[words[SCAN_WORDS * i + 3] as usize];
-    let second = slots[words[SCAN_WORDS * i + 4] as usize];
-    if number == EAVT {
-        return get_scan_bounds(table, inputs, first, attribute, second);
-    }
-    get_scan_bounds(table, inputs, attribute, first, second)
-}
-
-// Store what row `at` of the table that scan i runs over holds for the slots that the scan writes.
-fn fill_slots(i: usize, at: usize, words: &[u64], table: &[u64], slots: &mut [u64])
-    requires { ⌜ LiesAt (now words) (length (now slots)) i ⌝ }
-    requires { ⌜ at < count (now table) ⌝ }
-    ensures { λ r. ⌜ now (slots .exit) ≡ filledFrom (row (now (table .entry)) at) (getD (scansIn (now (words .entry))) i zeroScan) (now (slots .entry)) ⌝ }
-{
-    let inputs = words[SCAN_WORDS * i + 1];
-    if inputs == 2 {
-        // Only the iteration matters, the values are known.
-        return;
-    }
-    let first = words[SCAN_WORDS * i + 3] as usize;
-    let second = words[SCAN_WORDS * i + 4] as usize;
-    if inputs == 0 {
-        slots[first] = table[WORDS * at + 1];
-        slots[second] = table[WORDS * at + 2];
-        return;
-    }
-    slots[second] = table[WORDS * at + 2];
-}
-
 // Increment the i-th iterator.
 //
 // If it is exhausted, increment the (i-1)-th iterator and reset the i-th one, etc., until the 0-th iterator is exhausted.
@@ -138,4 +75,67 @@ pub fn increment<'a>(
         iters[ITER_WORDS * i] = iter.position;
         iters[ITER_WORDS * i + 1] = iter.end;
     }
+}
+
+// Given the current slot values, produce the iterator for scan i, which runs over this table.
+pub fn get_iter(i: usize, words: &[u64], table: &[u64], slots: &[u64]) -> Iter
+    requires { ⌜ LiesAt (now words) (length (now slots)) i ⌝ }
+    ensures { λ r. ⌜ Found (now (table .entry)) (keyOf (getD (scansIn (now (words .entry))) i zeroScan) (now (slots .entry))) (r .position) (r .end) ⌝ }
+{
+    let number = words[SCAN_WORDS * i];
+    let inputs = words[SCAN_WORDS * i + 1] as usize + 1;
+    let attribute = words[SCAN_WORDS * i + 2];
+    let first = slots[words[SCAN_WORDS * i + 3] as usize];
+    let second = slots[words[SCAN_WORDS * i + 4] as usize];
+    if number == EAVT {
+        return get_scan_bounds(table, inputs, first, attribute, second);
+    }
+    get_scan_bounds(table, inputs, attribute, first, second)
+}
+
+// Return the positions that determine the range to scan over: those of the rows that begin with the key, the first `inputs`
+// of the three words. There is no largest datom here, so the range of the key 2^64 - 1 is found too.
+fn get_scan_bounds(table: &[u64], inputs: usize, first: u64, second: u64, third: u64) -> Iter
+    ensures { λ r. ⌜ Found (now (table .entry)) (key inputs first second third) (r .position) (r .end) ⌝ }
+{
+    let position = tables::bound(table, 0, inputs, first, second, third, false);
+    let end = tables::bound(table, position, inputs, first, second, third, true);
+    Iter {
+        position: position,
+        end: end,
+    }
+}
+
+// Store what row `at` of the table that scan i runs over holds for the slots that the scan writes.
+fn fill_slots(i: usize, at: usize, words: &[u64], table: &[u64], slots: &mut [u64])
+    requires { ⌜ LiesAt (now words) (length (now slots)) i ⌝ }
+    requires { ⌜ at < count (now table) ⌝ }
+    ensures { λ r. ⌜ now (slots .exit) ≡ filledFrom (row (now (table .entry)) at) (getD (scansIn (now (words .entry))) i zeroScan) (now (slots .entry)) ⌝ }
+{
+    let inputs = words[SCAN_WORDS * i + 1];
+    if inputs == 2 {
+        // Only the iteration matters, the values are known.
+        return;
+    }
+    let first = words[SCAN_WORDS * i + 3] as usize;
+    let second = words[SCAN_WORDS * i + 4] as usize;
+    if inputs == 0 {
+        slots[first] = table[WORDS * at + 1];
+        slots[second] = table[WORDS * at + 2];
+        return;
+    }
+    slots[second] = table[WORDS * at + 2];
+}
+
+// The table with this number.
+pub fn get_table<'a>(aevt: &'a [u64], avet: &'a [u64], eavt: &'a [u64], number: u64) -> &'a [u64]
+    ensures { λ r. ⌜ now r ≡ tableOf (tablesOf (now (aevt .entry)) (now (avet .entry)) (now (eavt .entry))) (indexOf number) ⌝ }
+{
+    if number == AEVT {
+        return aevt;
+    }
+    if number == AVET {
+        return avet;
+    }
+    eavt
 }

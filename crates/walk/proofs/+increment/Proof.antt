@@ -12,7 +12,8 @@ use Rattle.visits.proofs.Pending.{iterWords, pending}
 use Rattle.walk.specs.Words.{scansIn}
 use Rattle.walk.specs.Steps.{tablesOf}
 use Rattle.walk.proofs.Words.{laid-lies, table-is}
-use Rattle.walk.proofs.Turn.{Turn, turn-start, turn-take, turn-end, turn-ready, turn-no, turn-again, turn-less}
+use Rattle.walk.proofs.Turn.{Turn, turn-start, turn-take, turn-end, turn-ready, turn-no}
+use Rattle.walk.proofs.Again.{turn-again, turn-less}
 use Rattle.walk.proofs.increment.Reads as increment
 use Rattle.walk.proofs.increment.Kinds as increment-kinds
 use Rattle.walk.proofs.+increment.Lts-increment as increment-lts
@@ -54,9 +55,15 @@ pub +increment-spec : {M : Type 1} → statement M
     increment.Post
     Inv
     μ
-    (λ c. let start = c .before .before .before .before .before .before .before in omega (arith, laid-lies (start .pre .1 .0) (start .args .i) (start .pre .1 .1 .1 .low) .whole))
-    (λ c. let start = c .before .before .before .before .before .before .before in omega (arith, laid-lies (start .pre .1 .0) (start .args .i) (start .pre .1 .1 .1 .low) .whole))
-    (λ c. let start = c .before .before .before .before .before .before .before .before in omega (arith, laid-lies (start .pre .1 .0) (start .args .i) (start .pre .1 .1 .1 .low) .whole))
+    (λ c.
+    let start = c .before .before .before .before .before .before .before in
+    omega (arith, laid-lies (start .pre .1 .0) (start .args .i) (start .pre .1 .1 .1 .low) .whole))
+    (λ c.
+    let start = c .before .before .before .before .before .before .before in
+    omega (arith, laid-lies (start .pre .1 .0) (start .args .i) (start .pre .1 .1 .1 .low) .whole))
+    (λ c.
+    let start = c .before .before .before .before .before .before .before .before in
+    omega (arith, laid-lies (start .pre .1 .0) (start .args .i) (start .pre .1 .1 .1 .low) .whole))
     (λ c κs. search needs)
     (λ c. turn-start _ _ _ _ _ _ (c .before .before .before .before .before .before .before .before .before .pre .1 .1 .1))
     (λ c. omega (arith, c .loop .inv .ready .low, c .loop .inv .ready .iters-long))
@@ -70,19 +77,33 @@ pub +increment-spec : {M : Type 1} → statement M
     (λ c. omega (arith, c .before .before .before .loop .inv .ready .low, c .before .before .before .loop .inv .ready .iters-long))
     (λ c. omega (arith, c .before .before .before .loop .inv .ready .low, c .before .before .before .loop .inv .ready .iters-long))
     (λ c. omega (arith, c .before .before .before .loop .inv .ready .low, c .before .before .before .loop .inv .ready .iters-long))
-    (λ c κs. let start = c .before .before .before .before .before .before .before .before .before .before .before .before .before .before in let turn = c .before .before .before .before .loop .inv in let lies = laid-lies (start .pre .1 .0) (start .args .i) (turn .ready .low) in (rw (turn .slots-same) lies, rw (table-is lies _ _ (c .before .before .before .before .before .get-table .ensures)) (omega (arith, c .before .if1 .taken, turn .ready .ends (start .args .i) (omega arith)))))
+    (λ c κs.
+    let start = c .before .before .before .before .before .before .before .before .before .before .before .before .before .before in
+    let turn = c .before .before .before .before .loop .inv in
+    let lies = laid-lies (start .pre .1 .0) (start .args .i) (turn .ready .low) in
+    (rw (turn .slots-same) lies, rw (table-is lies _ _ (c .before .before .before .before .before .get-table .ensures)) (omega (arith, c .before .if1 .taken, turn .ready .ends (start .args .i) (omega arith)))))
     (λ c. length-set (c .before .before .before .before .before .before .before .loop .iters) _ _ ∙ c .before .before .before .before .before .before .before .loop .inv .iters-same)
     (λ c. c .before .before .fill-slots .kept .1 .1 .1 .1 .0 ∙ c .before .before .before .before .before .before .before .loop .inv .slots-same)
-    (λ c. let start = c .before .before .before .before .before .before .before .before .before .before .before .before .before .before .before .before .before in let turn = c .before .before .before .before .before .before .before .loop .inv in let lies = laid-lies (start .pre .1 .0) (start .args .i) (turn .ready .low) in turn-take turn (rw (turn .slots-same) (start .pre .1 .0 .sound)) (c .before .before .before .before .if1 .taken) _ _ (table-is lies _ _ (c .before .before .before .before .before .before .before .before .get-table .ensures)) (c .before .before .fill-slots .ensures))
+    (λ c.
+    let start = c .before .before .before .before .before .before .before .before .before .before .before .before .before .before .before .before .before in
+    let turn = c .before .before .before .before .before .before .before .loop .inv in
+    let lies = laid-lies (start .pre .1 .0) (start .args .i) (turn .ready .low) in
+    turn-take turn (rw (turn .slots-same) (start .pre .1 .0 .sound)) (c .before .before .before .before .if1 .taken) _ _ (table-is lies _ _ (c .before .before .before .before .before .before .before .before .get-table .ensures)) (c .before .before .fill-slots .ensures))
     (λ c. c .before .before .before .before .loop .inv .iters-same)
     (λ c. c .before .before .before .before .loop .inv .slots-same)
     (λ c. turn-end (c .before .before .before .before .loop .inv) (c .before .if1 .left) (c .if2 .taken))
     (λ c. omega arith)
-    (λ c κs. let start = c .before .before .before .before .before .before .before .before .before .before .before .before .before .before .before .before in let turn = c .before .before .before .before .before .before .loop .inv in (omega (arith, start .pre .0, c .before .before .if2 .left), (rw (turn .slots-same) (start .pre .1 .0), (start .pre .1 .1 .0, turn-ready turn))))
+    (λ c κs.
+    let start = c .before .before .before .before .before .before .before .before .before .before .before .before .before .before .before .before in
+    let turn = c .before .before .before .before .before .before .loop .inv in
+    (omega (arith, start .pre .0, c .before .before .if2 .left), (rw (turn .slots-same) (start .pre .1 .0), (start .pre .1 .1 .0, turn-ready turn))))
     (λ c. c .before .before .before .before .before .increment .kept .1 .1 .1 .1 .1 .1 .0 ∙ c .before .before .before .before .before .before .before .before .before .before .before .before .loop .inv .iters-same)
     (λ c. c .before .before .before .before .before .increment .kept .1 .1 .1 .1 .1 .1 .1 .0 ∙ c .before .before .before .before .before .before .before .before .before .before .before .before .loop .inv .slots-same)
     (λ c. turn-no (c .before .before .before .before .before .before .before .before .before .before .before .before .loop .inv) (c .before .before .before .before .before .before .before .before .before .if1 .left) (c .before .before .before .before .before .before .before .before .if2 .left) _ _ (rw (not-true (c .before .before .before .before .before .increment .result) (c .if3 .taken)) at (c .before .before .before .before .before .increment .ensures)))
-    (λ c κs. let start = c .before .before .before .before .before .before .before .before .before .before .before .before .before .before .before .before .before .before .before .before .before .before .before in let turn = c .before .before .before .before .before .before .before .before .before .before .before .before .before .loop .inv in rw (c .before .before .before .before .before .before .increment .kept .1 .1 .1 .1 .1 .1 .1 .0 ∙ turn .slots-same) (laid-lies (start .pre .1 .0) (start .args .i) (turn .ready .low)))
+    (λ c κs.
+    let start = c .before .before .before .before .before .before .before .before .before .before .before .before .before .before .before .before .before .before .before .before .before .before .before in
+    let turn = c .before .before .before .before .before .before .before .before .before .before .before .before .before .loop .inv in
+    rw (c .before .before .before .before .before .before .increment .kept .1 .1 .1 .1 .1 .1 .1 .0 ∙ turn .slots-same) (laid-lies (start .pre .1 .0) (start .args .i) (turn .ready .low)))
     (λ c. omega (arith, c .before .before .before .before .before .before .before .before .before .before .before .before .before .before .before .before .before .before .before .before .before .before .before .before .good, c .before .before .before .before .before .before .before .before .before .before .before .before .before .before .loop .inv .ready .low, c .before .before .before .before .before .before .before .before .before .before .before .before .before .before .loop .inv .ready .iters-long, c .before .before .before .before .before .before .before .before .before .before .before .before .before .before .loop .inv .iters-same, c .before .before .before .before .before .before .before .increment .kept .1 .1 .1 .1 .1 .1 .0))
     (λ c. omega (arith, c .before .before .before .before .before .before .before .before .before .before .before .before .before .before .before .before .before .before .before .before .before .before .before .before .good, c .before .before .before .before .before .before .before .before .before .before .before .before .before .before .loop .inv .ready .low, c .before .before .before .before .before .before .before .before .before .before .before .before .before .before .loop .inv .ready .iters-long, c .before .before .before .before .before .before .before .before .before .before .before .before .before .before .loop .inv .iters-same, c .before .before .before .before .before .before .before .increment .kept .1 .1 .1 .1 .1 .1 .0))
     (λ c. omega (arith, c .before .before .before .before .before .before .before .before .before .before .before .before .before .before .before .before .before .before .before .before .before .before .before .before .good, c .before .before .before .before .before .before .before .before .before .before .before .before .before .before .loop .inv .ready .low, c .before .before .before .before .before .before .before .before .before .before .before .before .before .before .loop .inv .ready .iters-long, c .before .before .before .before .before .before .before .before .before .before .before .before .before .before .loop .inv .iters-same, c .before .before .before .before .before .before .before .increment .kept .1 .1 .1 .1 .1 .1 .0))
@@ -90,5 +111,11 @@ pub +increment-spec : {M : Type 1} → statement M
     (λ c. omega (arith, c .before .before .before .before .before .before .before .before .before .before .before .before .before .before .before .before .before .before .before .before .before .before .before .before .good, c .before .before .before .before .before .before .before .before .before .before .before .before .before .before .loop .inv .ready .low, c .before .before .before .before .before .before .before .before .before .before .before .before .before .before .loop .inv .ready .iters-long, c .before .before .before .before .before .before .before .before .before .before .before .before .before .before .loop .inv .iters-same, c .before .before .before .before .before .before .before .increment .kept .1 .1 .1 .1 .1 .1 .0))
     (λ c. omega (arith, c .before .before .before .before .before .before .before .before .before .before .before .before .before .before .before .before .before .before .before .before .before .before .before .before .good, c .before .before .before .before .before .before .before .before .before .before .before .before .before .before .loop .inv .ready .low, c .before .before .before .before .before .before .before .before .before .before .before .before .before .before .loop .inv .ready .iters-long, c .before .before .before .before .before .before .before .before .before .before .before .before .before .before .loop .inv .iters-same, c .before .before .before .before .before .before .before .increment .kept .1 .1 .1 .1 .1 .1 .0))
     (λ c. simp length-set (omega (arith, c .before .before .before .before .before .before .before .before .before .before .before .before .before .before .before .before .before .before .before .before .before .before .before .before .good, c .before .before .before .before .before .before .before .before .before .before .before .before .before .before .loop .inv .ready .low, c .before .before .before .before .before .before .before .before .before .before .before .before .before .before .loop .inv .ready .iters-long, c .before .before .before .before .before .before .before .before .before .before .before .before .before .before .loop .inv .iters-same, c .before .before .before .before .before .before .before .increment .kept .1 .1 .1 .1 .1 .1 .0)))
-    (λ c. let start = c .before .before .before .before .before .before .before .before .before .before .before .before .before .before .before .before .before .before .before .before .before .before .before .before in let turn = c .before .before .before .before .before .before .before .before .before .before .before .before .before .before .loop .inv in turn-less turn (c .before .before .before .before .before .before .before .before .before .before .before .if1 .left) (c .before .before .before .before .before .before .before .before .before .before .if2 .left) _ _ (rw (not-false (c .before .before .before .before .before .before .before .increment .result) (c .before .before .if3 .left)) at (c .before .before .before .before .before .before .before .increment .ensures)) (c .before .before .before .before .before .before .before .increment .kept .1 .1 .1 .1 .1 .1 .0) (c .before .before .before .before .before .before .before .increment .kept .1 .1 .1 .1 .1 .1 .1 .0) _ _ _ (c .get-iter .ensures))
-    (λ c. let start = c .before .before .before .before .before .before .before .before .before .before .before .before .before .before .before .before .before .before .before .before .before .before .before .before in let turn = c .before .before .before .before .before .before .before .before .before .before .before .before .before .before .loop .inv in turn-again turn (c .before .before .before .before .before .before .before .before .before .before .before .if1 .left) (c .before .before .before .before .before .before .before .before .before .before .if2 .left) _ _ (rw (not-false (c .before .before .before .before .before .before .before .increment .result) (c .before .before .if3 .left)) at (c .before .before .before .before .before .before .before .increment .ensures)) (c .before .before .before .before .before .before .before .increment .kept .1 .1 .1 .1 .1 .1 .0) (c .before .before .before .before .before .before .before .increment .kept .1 .1 .1 .1 .1 .1 .1 .0) _ _ _ (c .get-iter .ensures) (rw (turn .slots-same) (start .pre .1 .0 .sound)) (start .pre .1 .1 .0) (table-is (laid-lies (start .pre .1 .0) (start .args .i) (turn .ready .low)) _ _ (c .before .before .before .before .before .before .before .before .before .before .before .before .before .before .before .get-table .ensures)))
+    (λ c.
+    let start = c .before .before .before .before .before .before .before .before .before .before .before .before .before .before .before .before .before .before .before .before .before .before .before .before in
+    let turn = c .before .before .before .before .before .before .before .before .before .before .before .before .before .before .loop .inv in
+    turn-less turn (c .before .before .before .before .before .before .before .before .before .before .before .if1 .left) (c .before .before .before .before .before .before .before .before .before .before .if2 .left) _ _ (rw (not-false (c .before .before .before .before .before .before .before .increment .result) (c .before .before .if3 .left)) at (c .before .before .before .before .before .before .before .increment .ensures)) (c .before .before .before .before .before .before .before .increment .kept .1 .1 .1 .1 .1 .1 .0) (c .before .before .before .before .before .before .before .increment .kept .1 .1 .1 .1 .1 .1 .1 .0) _ _ _ (c .get-iter .ensures))
+    (λ c.
+    let start = c .before .before .before .before .before .before .before .before .before .before .before .before .before .before .before .before .before .before .before .before .before .before .before .before in
+    let turn = c .before .before .before .before .before .before .before .before .before .before .before .before .before .before .loop .inv in
+    turn-again turn (c .before .before .before .before .before .before .before .before .before .before .before .if1 .left) (c .before .before .before .before .before .before .before .before .before .before .if2 .left) _ _ (rw (not-false (c .before .before .before .before .before .before .before .increment .result) (c .before .before .if3 .left)) at (c .before .before .before .before .before .before .before .increment .ensures)) (c .before .before .before .before .before .before .before .increment .kept .1 .1 .1 .1 .1 .1 .0) (c .before .before .before .before .before .before .before .increment .kept .1 .1 .1 .1 .1 .1 .1 .0) _ _ _ (c .get-iter .ensures) (rw (turn .slots-same) (start .pre .1 .0 .sound)) (start .pre .1 .1 .0) (table-is (laid-lies (start .pre .1 .0) (start .args .i) (turn .ready .low)) _ _ (c .before .before .before .before .before .before .before .before .before .before .before .before .before .before .before .get-table .ensures)))

@@ -1,0 +1,5 @@
+pub mod Start
+pub mod Write
+pub mod Written
+pub mod Answers
+pub mod OneAnswer

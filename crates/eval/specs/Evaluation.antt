@@ -1,0 +1,72 @@
+-- 01, "Tables and rows" and "Refusal numbers": evaluation is the plan check, 28 where there are no scans, the check of the tables, and then
+-- the window of the rows.
+use mathlib.Core.Bool.{Bool, false}
+use Prim.Native.Nat.{ℕ, _*_, _<_, _≤_}
+use mathlib.Core.List.{List, map}
+use lib.ListN.{length}
+use lib.Dec.{eqb}
+use Rattle.refusal.specs.declared.Verdict.{Verdict}
+use Rattle.refusal.specs.declared.Verdict.the-variants.{Fine}
+use Rattle.refusal.specs.Verdict.{refuseIf, orElse, unless}
+use Rattle.capacity.specs.Capacity.{maxScans, maxSlots, maxSelects}
+use Rattle.plan.specs.declared.Slot.{Slot}
+use Rattle.plan.specs.declared.SlotRecord.{SlotRecord}
+use Rattle.plan.specs.declared.Plan.{Plan}
+use Rattle.plan.specs.Plan.{scansOf, selectsOf}
+use Rattle.plan_check.specs.Check.{checkOf}
+use Rattle.plan_check.specs.Promised.{Promised}
+use Rattle.tables.specs.Check.{tablesFault}
+use Rattle.visits.specs.Visits.{Tables, valueOf, rowList}
+use Rattle.visits.specs.Window.{window, follows, filled}
+use Rattle.visits.proofs.Pending.{iterWords}
+use Rattle.walk.specs.Words.{scanWords}
+use Rattle.walk.specs.Steps.{Ascend}
+use Rattle.rows.specs.Next.{Shows}
+use Rattle.eval.specs.declared.Evaluated.{Evaluated}
+
+-- what slots hold before any scan
+abbrev pub valuesOf : List SlotRecord → List ℕ
+valuesOf ss = map (λ (s : SlotRecord). valueOf (s .definition)) ss
+
+-- the numbers of slots
+abbrev pub numbersOf : List Slot → List ℕ
+numbersOf ks = map (λ (k : Slot). k .0) ks
+
+-- a plan that passed the check and has a scan, and sorted tables
+pub record Evaluable (p : Plan) (ts : Tables) : Type 0 where
+  pub promised : Promised p
+  pub some-scan : 0 < length (scansOf p)
+  pub some-select : 0 < length (selectsOf p)
+  pub sorted : Ascend ts
+
+-- the state has room for any plan
+pub record Roomy (words initial selects iters slots : ℕ) : Type 0 where
+  pub words-room : scanWords * maxScans ≤ words
+  pub initial-room : maxSlots ≤ initial
+  pub selects-room : maxSelects ≤ selects
+  pub iters-room : iterWords * maxScans ≤ iters
+  pub slots-room : maxSlots ≤ slots
+
+-- what is shown of a plan's rows
+abbrev pub ShowsRows : Plan → Tables → ℕ → List ℕ → ℕ → Bool → List ℕ → Type 0
+ShowsRows p ts k buffer count more buffer′ = Shows (rowList p ts) (length (selectsOf p)) k buffer count more buffer′
+
+-- the order of refusals: the plan check, 28 where the plan has no scans, the check of the tables
+unfoldable pub evaluationFault : Plan → Tables → Verdict
+evaluationFault p ts =
+    orElse (checkOf p) (orElse (refuseIf (eqb (p .«scan_count») 0) 28 0) (tablesFault (ts .aevt) (ts .avet) (ts .eavt)))
+
+-- the answer of evaluation from row k on, into a buffer of so many words
+unfoldable pub evaluateOf : Plan → Tables → ℕ → ℕ → Evaluated
+evaluateOf p ts k room =
+    unless (evaluationFault p ts) (λ v. record { verdict = v; count = 0; more = false })
+    (record {
+      verdict = Fine;
+      count = length (window (rowList p ts) (length (selectsOf p)) k room);
+      more = follows (rowList p ts) (length (selectsOf p)) k room;
+    })
+
+-- and the buffer after it
+unfoldable pub bufferAfter : Plan → Tables → ℕ → List ℕ → List ℕ
+bufferAfter p ts k buffer =
+    unless (evaluationFault p ts) (λ v. buffer) (filled (window (rowList p ts) (length (selectsOf p)) k (length buffer)) buffer)
