@@ -1,0 +1,25 @@
+-- `windows_of_e` is safe and ends.
+use borrow.Author.Needs.{needs}
+use Prim.Native.Nat.{_≤_, _-_}
+use Rattle.evaluations.proofs.windows_of_e.Statement.{statement}
+use Rattle.evaluations.proofs.windows_of_e.Tie as tie
+
+abbrev Inv-loop : tie.InvT-loop
+Inv-loop from room₀ room = room ≤ 4
+
+abbrev μ-loop : tie.MeasureT-loop
+μ-loop from room₀ room = 4 - room
+
+pub windows-of-e-spec : {M : Type 1} → statement M
+windows-of-e-spec =
+    tie.close
+    (tie.spec
+    Inv-loop
+    μ-loop
+    (λ c. search needs)
+    (λ c κs. search needs)
+    (λ c κs. search needs)
+    (λ c. search needs)
+    (λ c. search needs)
+    (λ c. search needs)
+    (λ c. search needs))
