@@ -1,5 +1,6 @@
-// Evaluates 01's bench query and others over small tables: every window of a few sizes, every refusal, facts of 2^64 - 1, no rows,
-// and 600 triples. The buffer that is lent is shown whole, so that words past the last written row are seen to stay.
+// Evaluates 01's bench query and others over small tables: every window of a few sizes, 28 and the tables' refusals and two of the
+// plan check's, facts of 2^64 - 1, no rows, and 600 triples. The buffer that is lent is shown whole, so that words past the last
+// written row are seen to stay.
 use datom::Aid;
 use eval::Evaluated;
 use libc::STDOUT_FILENO;
