@@ -1,18 +1,15 @@
 // Writes cases for crates/plans, or the answers to them: plans of every kind, and what 001 makes of them (compare/run says how it
-// is built, with the stand-in for `datom` below). The check is read off document 01's table here, independently of the Rattle;
+// is built, with a stand-in for `datom`). The check is read off document 01's table here, independently of the Rattle;
 // the cost is 001's own wherever it fits a u64 and 001 does not panic, and is summed in 128 bits to know where that is.
 #[path = "../target/compare/plan.rs"]
 mod plan;
 
-mod datom {
-    #[derive(Copy, Clone, Debug, Eq, Hash, PartialEq)]
-    pub struct Aid(pub u64);
-    #[derive(Copy, Clone, Debug)]
-    pub struct Value(pub u64);
-}
+mod datom;
+mod random;
 
 use datom::{Aid, Value};
 use plan::{Flow, Index, Plan, Scan, Slot, SlotDefinition};
+use random::Random;
 
 const SCANS: usize = 48;
 const SLOTS: usize = 96;
@@ -221,17 +218,6 @@ const COSTS: [&'static str; 3] = [
     "EtEtAtetaoetetetetAoEtatViEtViAtviEtviAtetvietViatvietVoetviAtAoatet",
     "EtEtAtetetaoetetetetAoEtatViEtViAtviEtviAtetvietViatvietVoetviAtAoatet",
 ];
-
-struct Random(u64);
-
-impl Random {
-    fn below(&mut self, n: u64) -> u64 {
-        self.0 ^= self.0 << 13;
-        self.0 ^= self.0 >> 7;
-        self.0 ^= self.0 << 17;
-        (self.0 >> 11) % n
-    }
-}
 
 // A sound plan of a few scans: each slot is read once set and written once.
 fn sound(random: &mut Random) -> Case {

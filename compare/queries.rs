@@ -1,17 +1,13 @@
 // Writes cases for crates/queries, or the answers to them: queries of every kind, and what 000 makes of them (compare/run says how it
-// is built, with the stand-ins below). What is refused is read off document 01's table here, independently of the Rattle; every other
+// is built, with stand-ins). What is refused is read off document 01's table here, independently of the Rattle; every other
 // query is planned by 000 itself, which also lists its plans and weighs them.
 #[path = "../target/compare/plan.rs"]
 mod plan;
 #[path = "../target/compare/planner.rs"]
 mod planner;
 
-mod datom {
-    #[derive(Copy, Clone, Debug, Eq, Hash, PartialEq)]
-    pub struct Aid(pub u64);
-    #[derive(Copy, Clone, Debug)]
-    pub struct Value(pub u64);
-}
+mod datom;
+mod random;
 
 // 003's types that 000 uses, as they stand there; 003 itself wants a store.
 mod query {
@@ -43,6 +39,7 @@ mod query {
 
 use datom::{Aid, Value};
 use plan::{Flow, Index, Plan, SlotDefinition};
+use random::Random;
 use planner::Planner;
 use query::{Query, QueryAttribute, QueryValue, Statement, Var};
 
@@ -187,17 +184,6 @@ fn numbers(case: &Case) -> String {
 
 fn case(variables: u64, statements: &[(u16, u64, bool, u64)], select: &[u16]) -> Case {
     Case { variables: variables, statements: statements.to_vec(), select: select.to_vec() }
-}
-
-struct Random(u64);
-
-impl Random {
-    fn below(&mut self, n: u64) -> u64 {
-        self.0 ^= self.0 << 13;
-        self.0 ^= self.0 >> 7;
-        self.0 ^= self.0 << 17;
-        (self.0 >> 11) % n
-    }
 }
 
 fn random(random: &mut Random) -> Case {
