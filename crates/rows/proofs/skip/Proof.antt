@@ -19,7 +19,7 @@ again : tie.Need-loop-again Inv μ
 again c =
     let step = c .before .before .before .before .before .next in
     skip-again (c .before .before .before .before .before .before .before .before .before .loop .inv) _ _ (rw (not-false (step .result) (c .if1 .left)) at (step .ensures)) (step .kept .1 .1 .1 .1 .1 .0) (step .kept .1 .1 .1 .1 .1 .1 .0)
-    (c .before .before .before .before .before .before .before .before .loop-test .taken)
+    (omega (arith, c .before .before .before .before .before .before .before .before .loop-test .taken))
 
 no-more : tie.Need-returns Inv μ
 no-more c =
