@@ -41,8 +41,18 @@ pub fn cost(plan: Plan) -> Costed
     cost_of_scans(scans, plan.scan_count)
 }
 
+// The cost of the scans that count. A count past the array is that of all of it.
+pub fn cost_of_scans(scans: [Scan; MAX_SCANS], scan_count: usize) -> Costed
+    ensures { λ r. ⌜ r ≡ weighedFrom [] (take «scan_count» scans) 0 ⌝ }
+{
+    if MAX_SCANS < scan_count {
+        return weigh_scans(scans, MAX_SCANS);
+    }
+    weigh_scans(scans, scan_count)
+}
+
 // From the last scan to the first, cost = penalty + steps × cost, beginning with 1.
-fn cost_of_scans(scans: [Scan; MAX_SCANS], scan_count: usize) -> Costed
+fn weigh_scans(scans: [Scan; MAX_SCANS], scan_count: usize) -> Costed
     requires { ⌜ «scan_count» ≤ maxScans ⌝ }
     ensures { λ r. ⌜ r ≡ weighedFrom [] (take «scan_count» scans) 0 ⌝ }
 {

@@ -52,7 +52,7 @@ module _ (s : Scan) (cs : List Scan) (w : List Scan) where
   turns c l (m ∷ ls) r = turn l (before (s ∷ cs) (m ∷ ls)) (λ x n e. (simp (n, r .0), simp (n, e, r .1), turns c m ls (r .2))) s cs c
 
 -- all wheels
-wheels : (ss : List Scan) → Initial ss → Circle nextScans isNewScans ss (combinations ss)
+pub wheels : (ss : List Scan) → Initial ss → Circle nextScans isNewScans ss (combinations ss)
 unfolding nextScans isNewScans before combinations
 wheels [] i = record { begins = refl; runs = (refl, refl) }
 wheels (s ∷ ss) i =

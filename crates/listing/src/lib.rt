@@ -34,9 +34,9 @@ pub struct NextScan {
 }
 
 // The same for the scans of a plan.
-struct NextScans {
-    scans: [Scan; MAX_SCANS],
-    is_new: bool,
+pub struct NextScans {
+    pub scans: [Scan; MAX_SCANS],
+    pub is_new: bool,
 }
 
 // Advance to the next alternative of the plan.
@@ -65,8 +65,18 @@ pub fn next(plan: Plan) -> NextPlan
     }
 }
 
-// Advance the scans that count, up to the first that is new; the others stay as they are.
-fn next_scans(scans: [Scan; MAX_SCANS], scan_count: usize) -> NextScans
+// Advance the scans that count, up to the first that is new; the others stay as they are. A count past the array is that of all
+// of it.
+pub fn next_scans(scans: [Scan; MAX_SCANS], scan_count: usize) -> NextScans
+    ensures { λ r. ⌜ r ≡ record { scans = nextScans (take «scan_count» scans) ++ drop «scan_count» scans; «is_new» = isNewScans (take «scan_count» scans) } ⌝ }
+{
+    if MAX_SCANS < scan_count {
+        return advance_scans(scans, MAX_SCANS);
+    }
+    advance_scans(scans, scan_count)
+}
+
+fn advance_scans(scans: [Scan; MAX_SCANS], scan_count: usize) -> NextScans
     requires { ⌜ «scan_count» ≤ maxScans ⌝ }
     ensures { λ r. ⌜ r ≡ record { scans = nextScans (take «scan_count» scans) ++ drop «scan_count» scans; «is_new» = isNewScans (take «scan_count» scans) } ⌝ }
 {

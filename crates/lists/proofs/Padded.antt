@@ -3,7 +3,8 @@ use mathlib.Core.Path.{_≡_, refl, ap}
 use Prim.Native.Nat.{ℕ, zero, suc, _≤_, _<_}
 use mathlib.Core.List.{List, [], _∷_, _++_}
 use native.Mathlib.Nat.{not-suc-le-zero, le-of-suc-le-suc}
-use lib.ListN.{length, set, take, replicate}
+use native.Mathlib.Omega.{arith}
+use lib.ListN.{length, set, take, drop, replicate}
 use Rattle.lists.specs.Padded.{padded}
 
 module _ {A : Type 0} (z : A) where
@@ -32,6 +33,19 @@ module _ {A : Type 0} (z : A) where
   padded-front n [] h = refl
   padded-front zero (x ∷ l) h = absurd (not-suc-le-zero h)
   padded-front (suc n) (x ∷ l) h = ap (λ (t : List A). x ∷ t) (padded-front n l (le-of-suc-le-suc h))
+
+  -- as do the elements of a list of that many
+  pub padded-take : (n m : ℕ) (l : List A) → length l ≡ m → m ≤ n → take m (padded z n l) ≡ l
+  padded-take n m l e h = rw (← e) (padded-front n l (omega arith))
+
+  -- another list as long before the same padding
+  pub padded-other : (n : ℕ) (l m : List A) → length m ≡ length l → length l ≤ n → m ++ drop (length l) (padded z n l) ≡ padded z n m
+  unfolding padded
+  padded-other n [] [] e h = refl
+  padded-other n [] (y ∷ m) e h = absurd (let f : suc (length m) ≡ 0 = e in omega arith)
+  padded-other n (x ∷ l) [] e h = absurd (let f : 0 ≡ suc (length l) = e in omega arith)
+  padded-other zero (x ∷ l) (y ∷ m) e h = absurd (not-suc-le-zero h)
+  padded-other (suc n) (x ∷ l) (y ∷ m) e h = ap (λ (t : List A). y ∷ t) (padded-other n l m (omega (arith, e)) (le-of-suc-le-suc h))
 
   -- one element more
   pub padded-more : (n : ℕ) (l : List A) (x : A) → length l < n → set (padded z n l) (length l) x ≡ padded z n (l ++ (x ∷ []))

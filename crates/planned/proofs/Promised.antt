@@ -13,7 +13,7 @@ use Rattle.capacity.specs.Capacity.{maxStatements, maxScans, maxSlots, maxSelec
 use Rattle.refusal.specs.declared.Verdict.the-variants.{Fine}
 use Rattle.refusal.proofs.Fine.{or-fine}
 use Rattle.lists.specs.Padded.{padded}
-use Rattle.lists.proofs.Padded.{padded-front}
+use Rattle.lists.proofs.Padded.{padded-take}
 use Rattle.query.specs.declared.Var.{Var}
 use Rattle.query.specs.declared.Statement.{Statement}
 use Rattle.query.specs.declared.Query.{Query}
@@ -31,25 +31,21 @@ use Rattle.planned.proofs.Slots.{slots-length, variable-set, constant-s
 use Rattle.planned.proofs.Places.{take-scans, scan-at, bound-once, selects-below, all-named}
 use Rattle.planned.proofs.ScanFits.{scan-fits}
 
--- a list of m elements stands in front of its padding
-front : {A : Type 0} (z : A) (n m : ℕ) (l : List A) → length l ≡ m → m ≤ n → take m (padded z n l) ≡ l
-front z n m l e h = rw (← e) (padded-front z n l (omega arith))
-
 module _ (n m : ℕ) (ss : List Statement) (c : ℕ) (vs : List Var) where
   -- below its counts the plan has the statements' scans
   pub planned-scans : length ss ≡ m → m ≤ maxScans → scansOf (planFor n m ss c vs) ≡ scansFor [] ss n
   unfolding planFor
-  planned-scans e h = front zeroScan maxScans m (scansFor [] ss n) (length-scans [] ss n ∙ e) h
+  planned-scans e h = padded-take zeroScan maxScans m (scansFor [] ss n) (length-scans [] ss n ∙ e) h
 
   -- the variables' slots and the constants'
   pub planned-slots : n + constants ss ≤ maxSlots → slotsOf (planFor n m ss c vs) ≡ slotsFor n ss
   unfolding planFor
-  planned-slots h = front variableSlot maxSlots (n + constants ss) (slotsFor n ss) (slots-length n ss) h
+  planned-slots h = padded-take variableSlot maxSlots (n + constants ss) (slotsFor n ss) (slots-length n ss) h
 
   -- and the selected variables' slots
   pub planned-selects : length vs ≡ c → c ≤ maxSelects → slotsSelected (planFor n m ss c vs) ≡ map slotOf vs
   unfolding planFor
-  planned-selects e h = front zeroSlot maxSelects c (map slotOf vs) (simp length-map e) h
+  planned-selects e h = padded-take zeroSlot maxSelects c (map slotOf vs) (simp length-map e) h
 
 -- there is a constant's slot for statement j
 room : (ss : List Statement) (j : ℕ) (d : Statement) → j < length ss → constants (take j ss) + constantsIn (getD ss j d .value) ≤ constants ss

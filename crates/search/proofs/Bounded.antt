@@ -1,17 +1,20 @@
 -- No candidate's cost passes 2^64 - 1: each scan multiplies the cost by 200 at the most.
-use Prim.Native.Nat.{zero, _+_, _^_, _≤_, _<_}
+use mathlib.Core.Path.{_≡_, refl}
+use Prim.Native.Nat.{ℕ, zero, _+_, _^_, _≤_, _<_}
 use native.Mathlib.Nat.{mul-le-mul-right, pow-succ', pow-le-pow-right}
 use native.Mathlib.Omega.{arith}
 use mathlib.Core.List.{List, [], _∷_, _++_}
 use mathlib.Core.Bool.{Bool, true, false}
+use borrow.Author.Tests.{lt-leb}
 use lib.ListN.{length}
 use Rattle.capacity.specs.Capacity.{maxSearched}
+use Rattle.refusal.specs.declared.Verdict.the-variants.{Fine}
 use Rattle.plan.specs.declared.Scan.{Scan}
 use Rattle.plan.specs.declared.Index.{Index}
 use Rattle.plan.specs.declared.Index.the-variants.{Aevt, Avet, Eavt}
 use Rattle.plan.specs.declared.Flow.{Flow}
 use Rattle.plan.specs.declared.Flow.the-variants.{OutOut, InOut, InIn}
-use Rattle.cost.specs.Cost.{penaltyFor, indexUsed, keyUsed, itersOf, weight}
+use Rattle.cost.specs.Cost.{penaltyFor, indexUsed, keyUsed, itersOf, weight, weightFault, weighedFrom}
 
 penalty-most : (x : Index) (k i : Bool) → penaltyFor x k i ≤ 100
 penalty-most Aevt true i = omega arith
@@ -56,8 +59,21 @@ weight-most before (s ∷ ss) =
     rw (pow-succ' 200 (length ss)) (omega (arith, p, t, weight-least b ss, weight-most b ss))
 
 -- of as many scans as are searched
-pub weight-fits : (ss : List Scan) → length ss ≤ maxSearched → weight [] ss < 2 ^ 64
-weight-fits ss h =
+weight-below : (before ss : List Scan) → length ss ≤ maxSearched → weight before ss < 2 ^ 64
+weight-below before ss h =
     let some : zero < 200 = omega arith in
     let m : 200 ^ length ss ≤ 200 ^ maxSearched = pow-le-pow-right some h in
-    omega (arith, m, weight-most [] ss)
+    omega (arith, m, weight-most before ss)
+
+pub weight-fits : (ss : List Scan) → length ss ≤ maxSearched → weight [] ss < 2 ^ 64
+weight-fits = weight-below []
+
+-- so none of them is refused 27
+fault-fine : (before ss : List Scan) (i : ℕ) → length ss ≤ maxSearched → weightFault before ss i ≡ Fine
+unfolding weightFault
+fault-fine before [] i h = refl
+fault-fine before (s ∷ ss) i h = simp (fault-fine (before ++ (s ∷ [])) ss (i + 1) (omega arith), lt-leb (2 ^ 64) _ (weight-below before (s ∷ ss) h))
+
+pub cost-fits : (ss : List Scan) → length ss ≤ maxSearched → weighedFrom [] ss 0 .cost ≡ weight [] ss
+unfolding weighedFrom
+cost-fits ss h = rw (fault-fine [] ss 0 h)

@@ -1,2 +1,3 @@
 pub mod Search
 pub mod FirstLeast
+pub mod Best

@@ -3,7 +3,6 @@ use mathlib.Core.Path.{_≡_, sym, _∙_}
 use borrow.Author.Needs.{needs}
 use Rattle.refusal.specs.declared.Verdict.the-variants.{Fine}
 use Rattle.plan.specs.Plan.{flowsFault}
-use Rattle.plan.proofs.Counts.{flows-counted}
 use Rattle.cost.specs.Cost.{weighedFrom, costOf}
 use Rattle.cost.proofs.cost.Statement.{statement}
 use Rattle.cost.proofs.cost.Tie as tie
@@ -27,5 +26,5 @@ cost-spec =
     (λ c. search needs)
     refused
     (λ c. search needs)
-    (λ c κs. flows-counted _ (fine (c .before)) .few-scans)
+    (λ c κs. search needs)
     weighs)
