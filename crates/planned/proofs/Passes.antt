@@ -33,11 +33,14 @@ either-verdict : (v : Verdict) (p : Plan) → unless {A = Planned} v (λ w. reco
 either-verdict Fine p = refl
 either-verdict (Refused r) p = refl
 
+pub plan-verdict : (q : Query) → planOf q .verdict ≡ planFault q
+unfolding planOf
+plan-verdict q = either-verdict (planFault q) _
+
 module _ (q : Query) (statements-sized : length (q .«where_statements» .items) ≡ maxStatements) (selects-sized : length (q .select .items) ≡ maxSelects)
     (accepted : planOf q .verdict ≡ Fine) where
   none-refused : planFault q ≡ Fine
-  unfolding planOf
-  none-refused = sym (either-verdict (planFault q) _) ∙ accepted
+  none-refused = sym (plan-verdict q) ∙ accepted
 
   -- so the query is as it must be, no variable is bound twice, and the plan is there
   query-fine : queryFault q ≡ Fine
@@ -48,7 +51,7 @@ module _ (q : Query) (statements-sized : length (q .«where_statements» .items)
   unfolding planFault
   bound-fine = or-fine (queryFault q) (boundTwiceFault [] (statementsOf q) 0) none-refused .1
 
-  plan-there : planOf q .plan ≡ planFor (q .«variable_count») (q .«where_statements» .count) (statementsOf q) (q .select .count) (selectsOf q)
+  pub plan-there : planOf q .plan ≡ planFor (q .«variable_count») (q .«where_statements» .count) (statementsOf q) (q .select .count) (selectsOf q)
   unfolding planOf
   plan-there = simp none-refused
 

@@ -5,17 +5,20 @@ use Prim.Native.Nat.{ℕ, zero, suc, _+_, _≤_, _<_}
 use native.Mathlib.Nat.{not-suc-le-zero, le-of-suc-le-suc, zero-add}
 use native.Mathlib.Omega.{arith}
 use native.Mathlib.Decide.{ℕ-discrete}
-use borrow.Author.Tests.{eq-eqb, ne-eqb, lt-ltb}
+use borrow.Author.Tests.{eq-eqb, ne-eqb, lt-ltb, ltb-true, ltb-false}
 use mathlib.Core.List.{List, [], _∷_, _++_}
 use mathlib.Core.Bool.{Bool, true, false, _||_}
 use lib.ListN.{length, getD, length-append, length-map}
 use lib.Seq.{ext-getD}
 use lib.Dec.{ltb}
+use Rattle.refusal.specs.declared.Verdict.the-variants.{Fine}
+use Rattle.refusal.specs.Verdict.{refuseIf, orElse}
+use Rattle.refusal.proofs.Fine.{refuse-fine, or-fine}
 use Rattle.orders.specs.Lists.{upFrom, upTo, one, times, OrderOf}
 use Rattle.orders.proofs.Lists.{times-append, length-upFrom}
 use Rattle.query.specs.declared.Statement.{Statement}
 use Rattle.query.specs.Query.{names, named, zeroStatement}
-use Rattle.query_check.specs.Refusals.{constantsIn, constants}
+use Rattle.query_check.specs.Refusals.{constantsIn, constants, high, statementsFault, unusedFault}
 use Rattle.search.specs.Search.{arranged}
 
 unfoldable pub sum : (ℕ → ℕ) → List ℕ → ℕ
@@ -91,7 +94,56 @@ unfolding named sum
 named-sum ss v [] = refl
 named-sum ss v (x ∷ o) = rw (named-sum ss v o) (or-positive (names (getD ss x zeroStatement) v) (sum (λ i. one (names (getD ss i zeroStatement) v)) o))
 
+-- no statement names a variable that is too high exactly if a sum is 0
+high-sum : (ss : List Statement) (n : ℕ) (o : List ℕ) (i : ℕ) → statementsFault n (arranged ss o) i ≡ Fine → sum (λ j. one (high n (getD ss j zeroStatement))) o ≡ 0
+unfolding statementsFault sum
+high-sum ss n [] i e = refl
+high-sum ss n (x ∷ o) i e =
+    let t = high n (getD ss x zeroStatement) in
+    let f = or-fine (refuseIf t 14 i) _ e in
+    rw (refuse-fine t 14 i (f .0)) (zero-add _ ∙ high-sum ss n o (i + 1) (f .1))
+
+sum-high : (ss : List Statement) (n : ℕ) (o : List ℕ) (i : ℕ) → sum (λ j. one (high n (getD ss j zeroStatement))) o ≡ 0 → statementsFault n (arranged ss o) i ≡ Fine
+unfolding statementsFault sum
+sum-high ss n [] i e = refl
+sum-high ss n (x ∷ o) i e = go (high n (getD ss x zeroStatement)) e (sum-high ss n o (i + 1))
+  where
+    go : (t : Bool) → one t + sum (λ j. one (high n (getD ss j zeroStatement))) o ≡ 0
+        → (sum (λ j. one (high n (getD ss j zeroStatement))) o ≡ 0 → statementsFault n (arranged ss o) (i + 1) ≡ Fine)
+        → orElse (refuseIf t 14 i) (statementsFault n (arranged ss o) (i + 1)) ≡ Fine
+    go true f r = absurd (omega (arith, f))
+    go false f r = r (omega (arith, f))
+
+-- a number that stands in an order is one of those below
+times-at : (o : List ℕ) (i : ℕ) → i < length o → 1 ≤ times (getD o i 0) o
+unfolding times
+times-at [] i h = absurd (not-suc-le-zero h)
+times-at (x ∷ o) zero h = omega (arith, ap one (eq-eqb x x refl))
+times-at (x ∷ o) (suc i) h = omega (arith, times-at o i (le-of-suc-le-suc h))
+
+times-high : (v a m : ℕ) → a + m ≤ v → times v (upFrom a m) ≡ 0
+unfolding times upFrom
+times-high v a zero h = refl
+times-high v a (suc m) h =
+    let d : (v ≡ a) → ⊥ = λ e. omega (arith, e) in
+    omega (arith, ap one (ne-eqb v a d), times-high v (suc a) m (omega arith))
+
+pub order-below : (n : ℕ) (o : List ℕ) → OrderOf (upTo n) o → (i : ℕ) → i < length o → getD o i 0 < n
+order-below n o p i h = go (ltb (getD o i 0) n) refl
+  where
+    go : (t : Bool) → ltb (getD o i 0) n ≡ t → getD o i 0 < n
+    go true e = ltb-true _ _ e
+    go false e = absurd (omega (arith, times-at o i h, p .each (getD o i 0), times-high (getD o i 0) 0 n (omega (arith, ltb-false (getD o i 0) n e))))
+
 module _ (ss : List Statement) (o : List ℕ) (order : OrderOf (upTo (length ss)) o) where
+  pub length-order : length (arranged ss o) ≡ length ss
+  length-order = length-map o (λ j. getD ss j zeroStatement) ∙ order .long ∙ length-upFrom 0 (length ss)
+
+  pub statements-order : (n : ℕ) → statementsFault n ss 0 ≡ Fine → statementsFault n (arranged ss o) 0 ≡ Fine
+  statements-order n e =
+      let h = high-sum ss n (upTo (length ss)) 0 (ap (λ (l : List Statement). statementsFault n l 0) (arranged-all ss) ∙ e) in
+      sum-high ss n o 0 (sym (sum-order _ (upTo (length ss)) o order) ∙ h)
+
   pub constants-order : constants (arranged ss o) ≡ constants ss
   constants-order = constants-sum ss o ∙ sym (sum-order _ (upTo (length ss)) o order) ∙ sym (constants-sum ss (upTo (length ss))) ∙ ap constants (arranged-all ss)
 
@@ -99,3 +151,8 @@ module _ (ss : List Statement) (o : List ℕ) (order : OrderOf (upTo (length ss)
   named-order v =
       named-sum ss v o ∙ ap (ltb 0) (sym (sum-order _ (upTo (length ss)) o order)) ∙ sym (named-sum ss v (upTo (length ss))) ∙
       ap (λ (l : List Statement). named l v) (arranged-all ss)
+
+  pub unused-order : (left v : ℕ) → unusedFault (arranged ss o) left v ≡ unusedFault ss left v
+  unfolding unusedFault
+  unused-order zero v = refl
+  unused-order (suc left) v = rw (named-order v, unused-order left (v + 1))

@@ -6,3 +6,5 @@ pub mod Arranged
 pub mod Kept
 pub mod Left
 pub mod Through
+pub mod Fresh
+pub mod Filled

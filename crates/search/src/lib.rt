@@ -21,15 +21,15 @@ ghost use mathlib.Core.Path.{_≡_};
 ghost use Prim.Native.Nat.{_≤_};
 ghost use mathlib.Core.List.{map};
 ghost use lib.ListN.{take};
-ghost use Rattle.capacity.specs.Capacity.{maxSearched};
+ghost use Rattle.capacity.specs.Capacity.{maxStatements, maxSearched};
 ghost use Rattle.refusal.specs.declared.Verdict.the-variants.{Fine};
-ghost use Rattle.query.specs.Query.{statementsOf};
+ghost use Rattle.query.specs.Query.{statementsOf, zeroStatement};
 ghost use Rattle.query_check.specs.Refusals.{queryFault};
 ghost use Rattle.lists.specs.Padded.{padded};
 ghost use Rattle.orders.specs.Lists.{upTo};
 ghost use Rattle.listing.specs.Listing.{combinations};
-ghost use Rattle.search.specs.Search.{weighed, candidatesOf, candidates, orders, notFound, searchOf};
-ghost use Rattle.search.specs.Best.{none, isBetter, better, bestFrom, arrangedQuery, Orders, Plans};
+ghost use Rattle.search.specs.Search.{arranged, weighed, candidatesOf, candidates, orders, notFound, searchOf};
+ghost use Rattle.search.specs.Best.{none, isBetter, better, bestFrom, arrangedQuery, Searchable, Orders, Plans};
 
 // The answer of the search: the order as statement numbers, zeros past the last, the plan and its cost; all zeros where it is
 // refused.
@@ -47,6 +47,66 @@ struct Best {
     scans: [Scan; MAX_SCANS],
     cost: u64,
 }
+
+// The best of the plans of this order, and of what was there: an order that is not sound has none.
+fn weigh_order(best: Best, order: [usize; MAX_SEARCHED], query: Query) -> Best
+    requires { ⌜ Searchable query ⌝ }
+    requires { ⌜ Orders (query .«where_statements» .count) order ⌝ }
+    ensures { λ r. ⌜ r ≡ bestFrom best (candidatesOf (query .«variable_count») (statementsOf query) (take (query .«where_statements» .count) order)) ⌝ }
+{
+    let arranged = arrange(query, order);
+    let planned = planner::plan(arranged);
+    let verdict = planned.verdict;
+    if let Verdict::Refused(_) = verdict {
+        return best;
+    }
+    let plan = planned.plan;
+    let scans = plan.scans;
+    let count = plan.scan_count;
+    weigh_plans(best, order, scans, count)
+}
+
+// The query with its statements in this order.
+fn arrange(query: Query, order: [usize; MAX_SEARCHED]) -> Query
+    requires { ⌜ Orders (query .«where_statements» .count) order ⌝ }
+    ensures { λ r. ⌜ r ≡ arrangedQuery query (take (query .«where_statements» .count) order) ⌝ }
+{
+    let statements = query.where_statements;
+    let given = statements.items;
+    let count = statements.count;
+    let items = arrange_items(given, order, count);
+    let select = query.select;
+    Query {
+        variable_count: query.variable_count,
+        where_statements: Statements { items, count },
+        select,
+    }
+}
+
+fn arrange_items(
+    given: [Statement; MAX_STATEMENTS],
+    order: [usize; MAX_SEARCHED],
+    count: usize,
+) -> [Statement; MAX_STATEMENTS]
+    requires { ⌜ Orders count order ⌝ }
+    ensures { λ r. ⌜ r ≡ padded zeroStatement maxStatements (arranged (take count given) (take count order)) ⌝ }
+{
+    let mut items = [ZERO_STATEMENT; MAX_STATEMENTS];
+    let mut i = 0;
+    while i < count {
+        let number = order[i];
+        let statement = given[number];
+        items[i] = statement;
+        i += 1;
+    }
+    items
+}
+
+const ZERO_STATEMENT: Statement = Statement {
+    entity: Var(0),
+    attribute: Aid(0),
+    value: QueryValue::Const(0),
+};
 
 // The best of the plans listed from these scans on, and of what was there.
 fn weigh_plans(
