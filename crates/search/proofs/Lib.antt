@@ -8,3 +8,4 @@ pub mod Left
 pub mod Through
 pub mod Fresh
 pub mod Filled
+pub mod Round

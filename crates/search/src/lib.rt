@@ -5,6 +5,7 @@ use capacity::MAX_SEARCHED;
 use capacity::MAX_STATEMENTS;
 use datom::Aid;
 use permutation::Permutations;
+use permutation::Swap;
 use plan::Flow;
 use plan::Index;
 use plan::Plan;
@@ -18,7 +19,7 @@ use query::Var;
 use refusal::Verdict;
 use refusal::refuse;
 ghost use mathlib.Core.Path.{_≡_};
-ghost use Prim.Native.Nat.{_≤_};
+ghost use Prim.Native.Nat.{_≤_, _<_};
 ghost use mathlib.Core.List.{map};
 ghost use lib.ListN.{take};
 ghost use Rattle.capacity.specs.Capacity.{maxStatements, maxSearched};
@@ -26,7 +27,7 @@ ghost use Rattle.refusal.specs.declared.Verdict.the-variants.{Fine};
 ghost use Rattle.query.specs.Query.{statementsOf, zeroStatement};
 ghost use Rattle.query_check.specs.Refusals.{queryFault};
 ghost use Rattle.lists.specs.Padded.{padded};
-ghost use Rattle.orders.specs.Lists.{upTo};
+ghost use Rattle.orders.specs.Lists.{swapped, upTo};
 ghost use Rattle.listing.specs.Listing.{combinations};
 ghost use Rattle.search.specs.Search.{arranged, weighed, candidatesOf, candidates, orders, notFound, searchOf};
 ghost use Rattle.search.specs.Best.{none, isBetter, better, bestFrom, arrangedQuery, Searchable, Orders, Plans};
@@ -46,6 +47,80 @@ struct Best {
     order: [usize; MAX_SEARCHED],
     scans: [Scan; MAX_SCANS],
     cost: u64,
+}
+
+// The best of the plans of every order, as the swaps give the orders.
+fn weigh_orders(query: Query) -> Best
+    requires { ⌜ Searchable query ⌝ }
+    ensures { λ r. ⌜ r ≡ bestFrom none (candidates (query .«variable_count») (statementsOf query) (orders (query .«where_statements» .count))) ⌝ }
+{
+    let count = query.where_statements.count;
+    let mut order = first_order(count);
+    let mut best = no_best();
+    let fresh = Permutations::new(count);
+    let mut state = fresh.state;
+    loop {
+        let after = weigh_order(best, order, query);
+        best = after;
+        let step = state.next_value();
+        let next = step.next;
+        if !next.is_some {
+            return best;
+        }
+        let swap = next.swap;
+        let other = swap_order(order, swap);
+        order = other;
+        let later = step.state;
+        state = later;
+    }
+}
+
+fn no_best() -> Best
+    ensures { λ r. ⌜ r ≡ none ⌝ }
+{
+    Best {
+        is_some: false,
+        order: [0; MAX_SEARCHED],
+        scans: [ZERO_SCAN; MAX_SCANS],
+        cost: 0,
+    }
+}
+
+const ZERO_SCAN: Scan = Scan {
+    index: Index::Aevt,
+    flow: Flow::OutOut,
+    entity: Slot(0),
+    attribute: Aid(0),
+    value: Slot(0),
+};
+
+// The order in which the statements were given.
+fn first_order(count: usize) -> [usize; MAX_SEARCHED]
+    requires { ⌜ count ≤ maxSearched ⌝ }
+    ensures { λ r. ⌜ r ≡ padded 0 maxSearched (upTo count) ⌝ }
+{
+    let mut order = [0; MAX_SEARCHED];
+    let mut i = 0;
+    while i < count {
+        order[i] = i;
+        i += 1;
+    }
+    order
+}
+
+fn swap_order(order: [usize; MAX_SEARCHED], swap: Swap) -> [usize; MAX_SEARCHED]
+    requires { ⌜ swap .0 < maxSearched ⌝ }
+    requires { ⌜ swap .1 < maxSearched ⌝ }
+    ensures { λ r. ⌜ r ≡ swapped (swap .0) (swap .1) order ⌝ }
+{
+    let a = swap.0;
+    let b = swap.1;
+    let first = order[a];
+    let second = order[b];
+    let mut other = order;
+    other[a] = second;
+    other[b] = first;
+    other
 }
 
 // The best of the plans of this order, and of what was there: an order that is not sound has none.
