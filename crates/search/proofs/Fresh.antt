@@ -76,6 +76,9 @@ module _ (q : Query) (sized : length (q .«where_statements» .items) ≡ maxSta
   abbrev initial : List Scan
   initial = scansFor [] (arranged ss o) n
 
+  pub initial-long : length initial ≡ count
+  initial-long = length-scans [] (arranged ss o) n ∙ length-order ss o of-statements ∙ long
+
   -- none where it is not sound
   pub unsound-none : (r : Refusal) → planOf (arrangedQuery q o) .verdict ≡ Refused r → candidatesOf n ss o ≡ []
   unfolding candidatesOf
@@ -97,7 +100,7 @@ module _ (q : Query) (sized : length (q .«where_statements» .items) ≡ maxSta
     fresh-count = ap (λ (p : Plan). p .«scan_count») fresh-plan ∙ (unfold planFor in refl)
 
     pub initial-front : take count (padded zeroScan maxScans initial) ≡ initial
-    initial-front = padded-take zeroScan maxScans count initial (length-scans [] (arranged ss o) n ∙ length-order ss o of-statements ∙ long) few
+    initial-front = padded-take zeroScan maxScans count initial initial-long few
 
     pub fresh-plans : Plans count (padded zeroScan maxScans initial)
     fresh-plans = record {

@@ -9,3 +9,4 @@ pub mod Through
 pub mod Fresh
 pub mod Filled
 pub mod Round
+pub mod Answer

@@ -18,11 +18,11 @@ use Rattle.planner.specs.Planning.{scansFor}
 use Rattle.listing.specs.Listing.{combinations}
 use Rattle.search.specs.Search.{Candidate, orders, arranged, isSound, weighed, candidatesOf, candidates}
 
-mem-map : {A B : Type 0} (f : A → B) {a : A} {l : List A} → List·Memᴰ a l → List·Memᴰ (f a) (map f l)
+pub mem-map : {A B : Type 0} (f : A → B) {a : A} {l : List A} → List·Memᴰ a l → List·Memᴰ (f a) (map f l)
 mem-map f (List·Memᴰ·head e) = List·Memᴰ·head (ap f e)
 mem-map f (List·Memᴰ·tail m) = List·Memᴰ·tail (mem-map f m)
 
-map-mem : {A B : Type 0} (f : A → B) (l : List A) (b : B) → List·Memᴰ b (map f l) → (a : A) × (List·Memᴰ a l) × (b ≡ f a)
+pub map-mem : {A B : Type 0} (f : A → B) (l : List A) (b : B) → List·Memᴰ b (map f l) → (a : A) × (List·Memᴰ a l) × (b ≡ f a)
 map-mem f [] b m = absurd (List·Memᴰ·not-nil m)
 map-mem {A = A} f (x ∷ xs) b m = go (List·Memᴰ·cases-cons m) (map-mem f xs b)
   where

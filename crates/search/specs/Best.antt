@@ -14,9 +14,11 @@ use Rattle.query_check.specs.Refusals.{queryFault}
 use Rattle.plan.specs.declared.Scan.{Scan}
 use Rattle.plan.specs.declared.Plan.{Plan}
 use Rattle.plan.specs.Plan.{zeroScan}
+use Rattle.planner.specs.Planning.{planOf}
 use Rattle.orders.specs.Lists.{upTo, OrderOf}
 use Rattle.listing.specs.Listing.{Initial}
 use Rattle.search.specs.declared.Best.{Best}
+use Rattle.search.specs.declared.Found.{Found}
 use Rattle.search.specs.Search.{Candidate, arranged}
 
 -- none so far, and a candidate
@@ -64,3 +66,22 @@ pub record Orders (count : ℕ) (order : List ℕ) : Type 0 where
 pub record Plans (count : ℕ) (scans : List Scan) : Type 0 where
   pub initial : Initial (take count scans)
   pub zeros : padded zeroScan maxScans (take count scans) ≡ scans
+
+-- the answer that the best makes: the plan of its order with its scans
+abbrev pub planWith : Plan → List Scan → Plan
+planWith p scans = record {
+  scans = scans;
+  «scan_count» = p .«scan_count»;
+  slots = p .slots;
+  «slot_count» = p .«slot_count»;
+  select = p .select;
+  «select_count» = p .«select_count»;
+}
+
+abbrev pub chosen : Query → Best → Found
+chosen q b = record {
+  verdict = Fine;
+  order = b .order;
+  plan = planWith (planOf (arrangedQuery q (take (q .«where_statements» .count) (b .order))) .plan) (b .scans);
+  cost = b .cost;
+}

@@ -30,7 +30,7 @@ ghost use Rattle.lists.specs.Padded.{padded};
 ghost use Rattle.orders.specs.Lists.{swapped, upTo};
 ghost use Rattle.listing.specs.Listing.{combinations};
 ghost use Rattle.search.specs.Search.{arranged, weighed, candidatesOf, candidates, orders, notFound, searchOf};
-ghost use Rattle.search.specs.Best.{none, isBetter, better, bestFrom, arrangedQuery, Searchable, Orders, Plans};
+ghost use Rattle.search.specs.Best.{none, isBetter, better, bestFrom, arrangedQuery, chosen, Searchable, Orders, Plans};
 
 // The answer of the search: the order as statement numbers, zeros past the last, the plan and its cost; all zeros where it is
 // refused.
@@ -47,6 +47,59 @@ struct Best {
     order: [usize; MAX_SEARCHED],
     scans: [Scan; MAX_SCANS],
     cost: u64,
+}
+
+// Find the cheapest plan of the query: of every plan of every sound order of its statements, the first of least cost.
+pub fn search(query: Query) -> Found
+    ensures { λ r. ⌜ r ≡ searchOf query ⌝ }
+{
+    let checked = query_check::check_query(query);
+    if let Verdict::Refused(_) = checked {
+        return not_found(checked);
+    }
+    let count = query.where_statements.count;
+    if MAX_SEARCHED < count {
+        let verdict = refuse(refusal::TOO_MANY_TO_SEARCH, 0);
+        return not_found(verdict);
+    }
+    let best = weigh_orders(query);
+    if !best.is_some {
+        let verdict = refuse(refusal::NO_SOUND_ORDER, 0);
+        return not_found(verdict);
+    }
+    choose(query, best)
+}
+
+// Refused: no order, no plan, no cost.
+fn not_found(verdict: Verdict) -> Found
+    ensures { λ r. ⌜ r ≡ notFound verdict ⌝ }
+{
+    let plan = Plan::empty();
+    Found {
+        verdict,
+        order: [0; MAX_SEARCHED],
+        plan,
+        cost: 0,
+    }
+}
+
+// The plan of the best's order, with its scans.
+fn choose(query: Query, best: Best) -> Found
+    requires { ⌜ Orders (query .«where_statements» .count) (best .order) ⌝ }
+    ensures { λ r. ⌜ r ≡ chosen query best ⌝ }
+{
+    let order = best.order;
+    let arranged = arrange(query, order);
+    let planned = planner::plan(arranged);
+    let mut plan = planned.plan;
+    let scans = best.scans;
+    plan.scans = scans;
+    Found {
+        verdict: Verdict::Fine,
+        order,
+        plan,
+        cost: best.cost,
+    }
 }
 
 // The best of the plans of every order, as the swaps give the orders.
