@@ -11,6 +11,7 @@ use plan::Index;
 use plan::Plan;
 use plan::Scan;
 use plan::Slot;
+use planner::Planned;
 use query::Query;
 use query::QueryValue;
 use query::Statement;
@@ -28,6 +29,7 @@ ghost use Rattle.query.specs.Query.{statementsOf, zeroStatement};
 ghost use Rattle.query_check.specs.Refusals.{queryFault};
 ghost use Rattle.lists.specs.Padded.{padded};
 ghost use Rattle.orders.specs.Lists.{swapped, upTo};
+ghost use Rattle.planner.specs.Planning.{planOf};
 ghost use Rattle.listing.specs.Listing.{combinations};
 ghost use Rattle.search.specs.Search.{arranged, weighed, candidatesOf, candidates, orders, notFound, searchOf};
 ghost use Rattle.search.specs.Best.{none, isBetter, better, bestFrom, arrangedQuery, chosen, Searchable, Orders, Plans};
@@ -89,8 +91,7 @@ fn choose(query: Query, best: Best) -> Found
     ensures { λ r. ⌜ r ≡ chosen query best ⌝ }
 {
     let order = best.order;
-    let arranged = arrange(query, order);
-    let planned = planner::plan(arranged);
+    let planned = plan_in(query, order);
     let mut plan = planned.plan;
     let scans = best.scans;
     plan.scans = scans;
@@ -182,8 +183,7 @@ fn weigh_order(best: Best, order: [usize; MAX_SEARCHED], query: Query) -> Best
     requires { ⌜ Orders (query .«where_statements» .count) order ⌝ }
     ensures { λ r. ⌜ r ≡ bestFrom best (candidatesOf (query .«variable_count») (statementsOf query) (take (query .«where_statements» .count) order)) ⌝ }
 {
-    let arranged = arrange(query, order);
-    let planned = planner::plan(arranged);
+    let planned = plan_in(query, order);
     let verdict = planned.verdict;
     if let Verdict::Refused(_) = verdict {
         return best;
@@ -192,6 +192,15 @@ fn weigh_order(best: Best, order: [usize; MAX_SEARCHED], query: Query) -> Best
     let scans = plan.scans;
     let count = plan.scan_count;
     weigh_plans(best, order, scans, count)
+}
+
+// The query planned afresh in this order.
+fn plan_in(query: Query, order: [usize; MAX_SEARCHED]) -> Planned
+    requires { ⌜ Orders (query .«where_statements» .count) order ⌝ }
+    ensures { λ r. ⌜ r ≡ planOf (arrangedQuery query (take (query .«where_statements» .count) order)) ⌝ }
+{
+    let arranged = arrange(query, order);
+    planner::plan(arranged)
 }
 
 // The query with its statements in this order.

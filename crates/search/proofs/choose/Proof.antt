@@ -4,7 +4,7 @@ use Rattle.search.proofs.choose.Statement.{statement}
 use Rattle.search.proofs.choose.Tie as tie
 
 returns : tie.Need-returns
-returns c = let p = c .before .before in rw (p .plan .ensures, p .before .arrange .ensures)
+returns c = rw (c .before .before .plan-in .ensures)
 
 pub choose-spec : {M : Type 1} → statement M
-choose-spec = tie.close (tie.spec (λ c κs. search needs) (λ c κs. search needs) returns)
+choose-spec = tie.close (tie.spec (λ c κs. search needs) returns)
