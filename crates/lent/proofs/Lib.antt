@@ -1,5 +1,7 @@
 pub mod Read
 pub mod Reader
+pub mod Entry
+pub mod Planning
 pub mod Arrays
 pub mod Lender
 pub mod Agree

@@ -4,7 +4,8 @@ use lib.Dec.{lit<}
 use contract.Running.{givenOf, tables, tablesOf}
 use denote.Triple.Spec.{tripleOf}
 use denote.Triple.Table.{entered, cited}
-use Rattle.lent.proofs.Lender.{Sized, Plan, lender-meets}
+use Rattle.lent.proofs.Lender.{Sized, Lent, lender-meets}
+use Rattle.lent.proofs.Planning.{planning}
 use Rattle.lent.proofs.plan.Symbol as plan-def
 use Rattle.lent.proofs.plan.Symbol.{name as #plan}
 use Rattle.lent.proofs.plan.Met as plan-thm
@@ -21,5 +22,5 @@ unfolding code.routine tablesOf
 plan-no-select-spec 𝓤 H 𝓜 𝓖 𝓡 =
     entered 𝓤 H (tripleOf 𝓤 H (𝓖 .A) lender.signature (lender.spec 𝓤 H (𝓖 .A) (𝓜 .mem) (𝓡 .run)))
     (tables 𝓤 H 𝓜 𝓡 code.env .C) (tables 𝓤 H 𝓜 𝓡 code.env .Λ) #plan-no-select code.function (code.unfolded 𝓤 H 𝓜 𝓡)
-    (lender-meets 1 0 𝓤 H (𝓖 .A) (givenOf 𝓤 H 𝓜 𝓖) (𝓜 .mem) (𝓡 .run) sized (tablesOf 𝓤 H 𝓜 (tables 𝓤 H 𝓜 𝓡 code.env))
-    (cited 𝓤 H (Plan 𝓤 H (𝓖 .A) (𝓜 .mem) (𝓡 .run)) 𝓜 𝓡 code.env #plan plan-def.routine code.calls-lent·plan (plan-thm.met 𝓤 H 𝓜 𝓖 𝓡)))
+    (lender-meets planning #plan 1 0 𝓤 H (𝓖 .A) (givenOf 𝓤 H 𝓜 𝓖) sized (tablesOf 𝓤 H 𝓜 (tables 𝓤 H 𝓜 𝓡 code.env))
+    (cited 𝓤 H (Lent planning #plan 𝓤 H (𝓖 .A)) 𝓜 𝓡 code.env #plan plan-def.routine code.calls-lent·plan (plan-thm.met 𝓤 H 𝓜 𝓖 𝓡)))
