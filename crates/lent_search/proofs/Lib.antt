@@ -1,0 +1,2 @@
+pub mod Searching
+pub mod OneAnswer

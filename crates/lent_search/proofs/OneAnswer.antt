@@ -1,0 +1,13 @@
+-- No second answer fits the promises of this crate.
+use mathlib.Core.Path.{_≡_}
+use Prim.Native.Nat.{ℕ}
+use mathlib.Core.List.{List}
+use Rattle.refusal.proofs.OneAnswer.{one-answer}
+use Rattle.query.specs.declared.Var.{Var}
+use Rattle.query.specs.declared.Statement.{Statement}
+use Rattle.search.specs.declared.Found.{Found}
+use Rattle.lent_search.specs.Lent.{searchLent}
+
+-- `search`, and the functions that lend to it
+pub search-one : (n : ℕ) (ss : List Statement) (vs : List Var) (r r′ : Found) → r ≡ searchLent n ss vs → r′ ≡ searchLent n ss vs → r ≡ r′
+search-one n ss vs r r′ = one-answer
