@@ -1,7 +1,8 @@
 -- 01, "How a query becomes a plan": the cycles, and `next`.
+use Prim.Native.Nat.{ℕ}
 use mathlib.Core.List.{List, [], _∷_, _++_}
 use mathlib.Core.Bool.{Bool, true, false, cond}
-use lib.ListN.{drop}
+use lib.ListN.{take, drop}
 use Rattle.refusal.specs.declared.Verdict.the-variants.{Fine}
 use Rattle.refusal.specs.Verdict.{unless}
 use Rattle.plan.specs.declared.Scan.{Scan}
@@ -12,6 +13,7 @@ use Rattle.plan.specs.declared.Flow.{Flow}
 use Rattle.plan.specs.declared.Flow.the-variants.{OutOut, InOut, InIn}
 use Rattle.plan.specs.Plan.{scansOf, flowsFault}
 use Rattle.listing.specs.declared.NextPlan.{NextPlan}
+use Rattle.listing.specs.declared.NextScans.{NextScans}
 
 -- cycles: out-out aevt, avet; in-in aevt, avet, eavt; in-out aevt, eavt; in-out avet alone. The next index of the cycle
 abbrev pub nextIndex : Flow → Index → Index
@@ -49,6 +51,10 @@ nextScans (s ∷ ss) = nextScan s ∷ cond (isNewIndex (s .flow) (s .index)) ss 
 unfoldable pub isNewScans : List Scan → Bool
 isNewScans [] = false
 isNewScans (s ∷ ss) = cond (isNewIndex (s .flow) (s .index)) true (isNewScans ss)
+
+-- an array of scans of which so many count, stepped; the places past them stay as they are
+abbrev pub nextOfScans : List Scan → ℕ → NextScans
+nextOfScans scans k = record { scans = nextScans (take k scans) ++ drop k scans; «is_new» = isNewScans (take k scans) }
 
 -- a plan with other scans below its count; the places past it stay as they are
 abbrev pub withScans : Plan → List Scan → Plan

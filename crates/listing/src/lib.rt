@@ -14,11 +14,9 @@ use plan::Plan;
 use plan::Scan;
 use refusal::Verdict;
 ghost use mathlib.Core.Path.{_≡_};
-ghost use mathlib.Core.List.{_++_};
 ghost use Prim.Native.Nat.{_≤_};
-ghost use lib.ListN.{take, drop};
 ghost use Rattle.capacity.specs.Capacity.{maxScans};
-ghost use Rattle.listing.specs.Next.{nextIndex, isNewIndex, nextScan, nextScans, isNewScans, nextOf};
+ghost use Rattle.listing.specs.Next.{nextIndex, isNewIndex, nextScan, nextOfScans, nextOf};
 
 // The answer of `next`: whether it is new, and the plan; where it is refused, the plan as it was given.
 pub struct NextPlan {
@@ -68,7 +66,7 @@ pub fn next(plan: Plan) -> NextPlan
 // Advance the scans that count, up to the first that is new; the others stay as they are. A count past the array is that of all
 // of it.
 pub fn next_scans(scans: [Scan; MAX_SCANS], scan_count: usize) -> NextScans
-    ensures { λ r. ⌜ r ≡ record { scans = nextScans (take «scan_count» scans) ++ drop «scan_count» scans; «is_new» = isNewScans (take «scan_count» scans) } ⌝ }
+    ensures { λ r. ⌜ r ≡ nextOfScans scans «scan_count» ⌝ }
 {
     if MAX_SCANS < scan_count {
         return advance_scans(scans, MAX_SCANS);
@@ -78,7 +76,7 @@ pub fn next_scans(scans: [Scan; MAX_SCANS], scan_count: usize) -> NextScans
 
 fn advance_scans(scans: [Scan; MAX_SCANS], scan_count: usize) -> NextScans
     requires { ⌜ «scan_count» ≤ maxScans ⌝ }
-    ensures { λ r. ⌜ r ≡ record { scans = nextScans (take «scan_count» scans) ++ drop «scan_count» scans; «is_new» = isNewScans (take «scan_count» scans) } ⌝ }
+    ensures { λ r. ⌜ r ≡ nextOfScans scans «scan_count» ⌝ }
 {
     let mut scans = scans;
     let mut i_scan = 0;

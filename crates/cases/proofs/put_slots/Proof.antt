@@ -1,20 +1,20 @@
--- `put_scans` is safe and ends.
-use Rattle.capacity.specs.Capacity.{maxScans}
+-- `put_slots` is safe and ends.
+use Rattle.capacity.specs.Capacity.{maxSlots}
 use borrow.Author.Needs.{needs}
 use Prim.Native.Nat.{_≤_, _-_}
 use lib.ListN.{length}
 use mathlib.Core.Path.{_≡_}
-use Rattle.queries.proofs.put_scans.Statement.{statement}
-use Rattle.queries.proofs.put_scans.Tie as tie
+use Rattle.cases.proofs.put_slots.Statement.{statement}
+use Rattle.cases.proofs.put_slots.Tie as tie
 
 abbrev Inv-loop : tie.InvT-loop
-Inv-loop count scans i₀ i = (i ≤ maxScans) × (length scans ≡ maxScans)
+Inv-loop count slots i₀ i = (i ≤ maxSlots) × (length slots ≡ maxSlots)
 
 abbrev μ-loop : tie.MeasureT-loop
-μ-loop count scans i₀ i = maxScans - i
+μ-loop count slots i₀ i = maxSlots - i
 
-pub put-scans-spec : {M : Type 1} → statement M
-put-scans-spec =
+pub put-slots-spec : {M : Type 1} → statement M
+put-slots-spec =
     tie.close
     (tie.spec
     Inv-loop

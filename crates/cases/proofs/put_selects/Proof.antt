@@ -4,8 +4,8 @@ use borrow.Author.Needs.{needs}
 use Prim.Native.Nat.{_≤_, _-_}
 use lib.ListN.{length}
 use mathlib.Core.Path.{_≡_}
-use Rattle.queries.proofs.put_selects.Statement.{statement}
-use Rattle.queries.proofs.put_selects.Tie as tie
+use Rattle.cases.proofs.put_selects.Statement.{statement}
+use Rattle.cases.proofs.put_selects.Tie as tie
 
 abbrev Inv-loop : tie.InvT-loop
 Inv-loop count select i₀ t6 t7 i = (i ≤ maxSelects) × (length select ≡ maxSelects)
