@@ -1,11 +1,8 @@
-// Answers queries given as decimal numbers: the refusal, or the plan, the plans listed from it with their costs, and the indexes
-// that stand again after the last. For each query: its counts of variables, statements and selects; a statement is four numbers
-// (entity, attribute, 1 for a constant, its value), a select one. stdin and stdout are written by the Rust (compare/queries.rs).
+// Answers queries given as decimal numbers (crate `given`): the refusal, or the plan, the plans listed from it with their costs, and
+// the indexes that stand again after the last. stdin and stdout are written by the Rust (compare/queries.rs).
 use capacity::MAX_SCANS;
 use capacity::MAX_SELECTS;
 use capacity::MAX_SLOTS;
-use capacity::MAX_STATEMENTS;
-use datom::Aid;
 use libc::STDIN_FILENO;
 use libc::STDOUT_FILENO;
 use plan::Flow;
@@ -16,133 +13,12 @@ use plan::Slot;
 use plan::SlotDefinition;
 use planner::Planned;
 use query::Query;
-use query::QueryValue;
-use query::Selects;
-use query::Statement;
-use query::Statements;
-use query::Var;
 use refusal::Verdict;
 
 // How many plans are listed at the most, and up to how many scans the cost is asked.
 const LISTED: usize = 60;
 
 const WEIGHED: usize = 9;
-
-// Statements on the way, and where to read on; selects likewise.
-struct ReadStatements {
-    statements: Statements,
-    next: usize,
-}
-
-struct ReadSelects {
-    select: Selects,
-    next: usize,
-}
-
-// A query that was read, and where to read on.
-struct Reading {
-    query: Query,
-    next: usize,
-}
-
-fn variable(value: u64) -> Var {
-    Var((value % 65536) as u16)
-}
-
-fn value_of(is_constant: u64, value: u64) -> QueryValue {
-    if is_constant == 1 {
-        QueryValue::Const(value)
-    } else {
-        QueryValue::Var(variable(value))
-    }
-}
-
-fn with_statement(text: &[u8], reading: ReadStatements, i: usize) -> ReadStatements {
-    let entity = numbers::number_at(text, reading.next);
-    let attribute = numbers::number_at(text, entity.next);
-    let is_constant = numbers::number_at(text, attribute.next);
-    let value = numbers::number_at(text, is_constant.next);
-    let mut statements = reading.statements;
-    if i < MAX_STATEMENTS {
-        statements.items[i] = Statement {
-            entity: variable(entity.value),
-            attribute: Aid(attribute.value),
-            value: value_of(is_constant.value, value.value),
-        };
-    }
-    ReadStatements {
-        statements,
-        next: value.next,
-    }
-}
-
-// The statements that are stored, and those past the capacity, which are passed over.
-fn read_statements(text: &[u8], start: usize, count: usize) -> ReadStatements {
-    let mut reading = ReadStatements {
-        statements: Statements {
-            items: [Statement {
-                entity: Var(0),
-                attribute: Aid(0),
-                value: QueryValue::Const(0),
-            }; MAX_STATEMENTS],
-            count,
-        },
-        next: start,
-    };
-    for i in 0..2 * MAX_STATEMENTS {
-        if i < count {
-            reading = with_statement(text, reading, i);
-        }
-    }
-    reading
-}
-
-fn with_select(text: &[u8], reading: ReadSelects, i: usize) -> ReadSelects {
-    let value = numbers::number_at(text, reading.next);
-    let mut select = reading.select;
-    if i < MAX_SELECTS {
-        select.items[i] = variable(value.value);
-    }
-    ReadSelects {
-        select,
-        next: value.next,
-    }
-}
-
-fn read_selects(text: &[u8], start: usize, count: usize) -> ReadSelects {
-    let mut reading = ReadSelects {
-        select: Selects {
-            items: [Var(0); MAX_SELECTS],
-            count,
-        },
-        next: start,
-    };
-    for i in 0..2 * MAX_SELECTS {
-        if i < count {
-            reading = with_select(text, reading, i);
-        }
-    }
-    reading
-}
-
-// The query whose numbers begin at a place.
-fn read_query(text: &[u8], start: usize) -> Reading {
-    let variables = numbers::number_at(text, start);
-    let statement_count = numbers::number_at(text, variables.next);
-    let select_count = numbers::number_at(text, statement_count.next);
-    let read = read_statements(text, select_count.next, statement_count.value as usize);
-    let selected = read_selects(text, read.next, select_count.value as usize);
-    let where_statements = read.statements;
-    let select = selected.select;
-    Reading {
-        query: Query {
-            variable_count: variables.value,
-            where_statements,
-            select,
-        },
-        next: selected.next,
-    }
-}
 
 fn put(text: &[u8]) {
     io::write_all(STDOUT_FILENO, text);
@@ -340,7 +216,7 @@ fn put_answer(query: Query) {
 fn put_all(text: &[u8]) {
     let mut at: usize = 0;
     while numbers::skip(text, at) < text.len() {
-        let reading = read_query(text, at);
+        let reading = given::read_query(text, at);
         let query = reading.query;
         put_answer(query);
         if reading.next <= at {

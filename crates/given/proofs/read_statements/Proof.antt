@@ -2,8 +2,8 @@
 use Rattle.capacity.specs.Capacity.{maxStatements}
 use borrow.Author.Needs.{needs}
 use Prim.Native.Nat.{_≤_, _-_, _*_}
-use Rattle.queries.proofs.read_statements.Statement.{statement}
-use Rattle.queries.proofs.read_statements.Tie as tie
+use Rattle.given.proofs.read_statements.Statement.{statement}
+use Rattle.given.proofs.read_statements.Tie as tie
 
 abbrev Inv-loop : tie.InvT-loop
 Inv-loop text start count reading₀ i₀ reading i = i ≤ 2 * maxStatements
