@@ -1,9 +1,9 @@
 // Writes cases for crates/evaluations, or the answers to them, by a plain reading of document 01: the refusals in its order, and the
-// rows by nested loops over all rows of a table, each row tested. compare/rows.rs holds rows to 002 itself.
-mod cases;
+// rows by nested loops over all rows of a table, each row tested. compare/answers.rs holds rows to 002 itself.
+mod plan_cases;
 mod random;
 
-use cases::{case, check, e, numbers, text, Case, Verdict};
+use plan_cases::{case, check, e, numbers, text, Case, Verdict};
 use random::Random;
 
 const LARGEST: u64 = u64::max_value();

@@ -1,14 +1,14 @@
 // Writes cases for crates/plans, or the answers to them: plans of every kind, and what 001 makes of them (compare/run says how it
-// is built, with a stand-in for `datom`). The check is read off document 01's table (compare/cases.rs), independently of the Rattle;
+// is built, with a stand-in for `datom`). The check is read off document 01's table (compare/plan_cases.rs), independently of the Rattle;
 // the cost is 001's own wherever it fits a u64 and 001 does not panic, and is summed in 128 bits to know where that is.
 #[path = "../target/compare/plan.rs"]
 mod plan;
 
-mod cases;
+mod plan_cases;
 mod datom;
 mod random;
 
-use cases::{case, check, e, in_order, numbers, text, Case, Verdict, SCANS, SELECTS, SLOTS};
+use plan_cases::{case, check, e, in_order, numbers, text, Case, Verdict, SCANS, SELECTS, SLOTS};
 use datom::{Aid, Value};
 use plan::{Flow, Index, Plan, Scan, Slot, SlotDefinition};
 use random::Random;

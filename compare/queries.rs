@@ -1,5 +1,5 @@
 // Writes cases for crates/queries, or the answers to them: queries of every kind, and what 000 makes of them (compare/run says how it
-// is built, with stand-ins). What is refused is read off document 01's table here, independently of the Rattle; every other
+// is built, with stand-ins). What is refused is read off document 01's table (compare/query_cases.rs); every other
 // query is planned by 000 itself, which also lists its plans and weighs them.
 #[path = "../target/compare/plan.rs"]
 mod plan;
@@ -7,91 +7,17 @@ mod plan;
 mod planner;
 
 mod datom;
+mod query;
+mod query_cases;
 mod random;
 
-// 003's types that 000 uses, as they stand there; 003 itself wants a store.
-mod query {
-    use datom::{Aid, Value};
-    #[derive(Copy, Clone, Debug, Eq, PartialEq)]
-    pub struct Var(pub u16);
-    #[derive(Clone, Debug)]
-    pub enum QueryAttribute {
-        Named(()),
-        Fixed(Aid),
-    }
-    #[derive(Clone, Debug)]
-    pub enum QueryValue {
-        Const(Value),
-        Var(Var),
-    }
-    #[derive(Clone, Debug)]
-    pub struct Statement {
-        pub entity: Var,
-        pub attribute: QueryAttribute,
-        pub value: QueryValue,
-    }
-    pub struct Query {
-        pub variable_names: Vec<String>,
-        pub where_statements: Vec<Statement>,
-        pub select: Vec<Var>,
-    }
-}
-
-use datom::{Aid, Value};
 use plan::{Flow, Index, Plan, SlotDefinition};
-use random::Random;
 use planner::Planner;
-use query::{Query, QueryAttribute, QueryValue, Statement, Var};
+use query_cases::{numbers, query_of, refusal, Case};
+use random::Random;
 
-const STATEMENTS: usize = 48;
-const SLOTS: u64 = 96;
-const SELECTS: usize = 32;
 // The plans of a query are listed up to this many.
 const LISTED: usize = 60;
-
-// A query as the Rattle has it. A statement is (entity, attribute, is constant, variable or constant).
-#[derive(Clone)]
-struct Case {
-    variables: u64,
-    statements: Vec<(u16, u64, bool, u64)>,
-    select: Vec<u16>,
-}
-
-// 01's table, planning: 10 to 16 ascending, within a number the lowest place.
-fn refusal(case: &Case) -> Option<(u64, u64)> {
-    let constants = case.statements.iter().filter(|s| s.2).count() as u64;
-    if case.statements.len() > STATEMENTS {
-        return Some((10, 0));
-    }
-    if case.variables > SLOTS || case.variables + constants > SLOTS {
-        return Some((11, 0));
-    }
-    if case.select.len() > SELECTS {
-        return Some((12, 0));
-    }
-    if case.select.is_empty() {
-        return Some((13, 0));
-    }
-    let high = |v: u64| v >= case.variables;
-    let at = case.statements.iter().position(|s| high(s.0 as u64) || (!s.2 && high(s.3)));
-    let selected = case.select.iter().position(|v| high(*v as u64)).map(|i| i + case.statements.len());
-    if let Some(i) = at.or(selected) {
-        return Some((14, i as u64));
-    }
-    let names = |s: &(u16, u64, bool, u64), v: u64| s.0 as u64 == v || (!s.2 && s.3 == v);
-    for v in 0..case.variables {
-        if !case.statements.iter().any(|s| names(s, v)) {
-            return Some((15, v));
-        }
-    }
-    for (i, s) in case.statements.iter().enumerate() {
-        let entity = s.0 as u64;
-        if !s.2 && s.3 == entity && !case.statements[..i].iter().any(|b| names(b, entity)) {
-            return Some((16, i as u64));
-        }
-    }
-    None
-}
 
 fn plan_text(plan: &Plan) -> String {
     let mut out = Vec::new();
@@ -144,19 +70,7 @@ fn answer(case: &Case) -> String {
     if let Some((number, place)) = refusal(case) {
         return format!("refused {} at {}", number, place);
     }
-    let query = Query {
-        variable_names: (0..case.variables).map(|_| String::new()).collect(),
-        where_statements: case
-            .statements
-            .iter()
-            .map(|s| Statement {
-                entity: Var(s.0),
-                attribute: QueryAttribute::Fixed(Aid(s.1)),
-                value: if s.2 { QueryValue::Const(Value(s.3)) } else { QueryValue::Var(Var(s.3 as u16)) },
-            })
-            .collect(),
-        select: case.select.iter().map(|v| Var(*v)).collect(),
-    };
+    let query = query_of(case);
     let mut planner = Planner::new(&query);
     planner.initialize_scans();
     let mut out = format!("{}; plans", plan_text(planner.get_plan()));
@@ -171,15 +85,6 @@ fn answer(case: &Case) -> String {
             return out + &format!(" again {}", index_text(planner.get_plan()));
         }
     }
-}
-
-fn numbers(case: &Case) -> String {
-    let mut out = vec![case.variables, case.statements.len() as u64, case.select.len() as u64];
-    for s in &case.statements {
-        out.extend([s.0 as u64, s.1, s.2 as u64, s.3].iter());
-    }
-    out.extend(case.select.iter().map(|v| *v as u64));
-    out.iter().map(|n| n.to_string()).collect::<Vec<_>>().join(" ")
 }
 
 fn case(variables: u64, statements: &[(u16, u64, bool, u64)], select: &[u16]) -> Case {
