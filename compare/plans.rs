@@ -7,11 +7,11 @@ mod plan;
 mod plan_cases;
 mod datom;
 mod random;
+mod rust_plan;
 
 use plan_cases::{case, check, e, in_order, numbers, text, Case, Verdict, SCANS, SELECTS, SLOTS};
-use datom::{Aid, Value};
-use plan::{Flow, Index, Plan, Scan, Slot, SlotDefinition};
 use random::Random;
+use rust_plan::rust_plan;
 
 // 20, then 21, then 27 at the scan at which, from the last, the cost first passes 2^64 - 1.
 fn cost_fault(case: &Case) -> Verdict {
@@ -37,34 +37,6 @@ fn cost_fault(case: &Case) -> Verdict {
         }
     }
     None
-}
-
-fn rust_plan(case: &Case) -> Plan {
-    Plan {
-        scans: case
-            .scans
-            .iter()
-            .map(|s| Scan {
-                index: [Index::Aevt, Index::Avet, Index::Eavt][s.0].clone(),
-                flow: [Flow::OutOut, Flow::InOut, Flow::InIn][s.1].clone(),
-                entity: Slot(s.2),
-                attribute: Aid(s.3),
-                value: Slot(s.4),
-            })
-            .collect(),
-        slots: case
-            .slots
-            .iter()
-            .map(|s| {
-                if s.0 {
-                    SlotDefinition::Constant { value: Value(s.1) }
-                } else {
-                    SlotDefinition::Variable { name: String::new() }
-                }
-            })
-            .collect(),
-        select: case.select.iter().map(|s| Slot(*s)).collect(),
-    }
 }
 
 // 001's check tests a scan's slots against the number of scans: it is held to 01's where no scan names a slot between the two.
