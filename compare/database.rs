@@ -1,7 +1,6 @@
 // Stand-ins for noblit's `database`, `heap` and `store`, of which eval.rs wants only these: a view is three sorted vectors, and a range
 // of one is found by halves. Values are plain numbers, so that nothing is on a heap.
 use datom::{Aid, Datom, Eid, Operation, Tid, Value};
-use std::cmp::Ordering;
 use std::marker::PhantomData;
 use std::slice;
 
@@ -19,9 +18,9 @@ impl heap::Heap for Nothing {}
 
 impl store::Store for Nothing {}
 
-// The order of an index.
+// The order of an index: by these words, one after the other.
 pub trait DatomOrd {
-    fn cmp(x: &Datom, y: &Datom) -> Ordering;
+    fn words(datom: &Datom) -> [u64; 4];
 }
 
 pub struct Aevt;
@@ -31,24 +30,45 @@ pub struct Avet;
 pub struct Eavt;
 
 impl DatomOrd for Aevt {
-    fn cmp(x: &Datom, y: &Datom) -> Ordering {
-        let key = |d: &Datom| (d.attribute, d.entity, d.value, d.transaction_operation);
-        key(x).cmp(&key(y))
+    fn words(d: &Datom) -> [u64; 4] {
+        [d.attribute.0, d.entity.0, d.value.0, d.transaction_operation]
     }
 }
 
 impl DatomOrd for Avet {
-    fn cmp(x: &Datom, y: &Datom) -> Ordering {
-        let key = |d: &Datom| (d.attribute, d.value, d.entity, d.transaction_operation);
-        key(x).cmp(&key(y))
+    fn words(d: &Datom) -> [u64; 4] {
+        [d.attribute.0, d.value.0, d.entity.0, d.transaction_operation]
     }
 }
 
 impl DatomOrd for Eavt {
-    fn cmp(x: &Datom, y: &Datom) -> Ordering {
-        let key = |d: &Datom| (d.entity, d.attribute, d.value, d.transaction_operation);
-        key(x).cmp(&key(y))
+    fn words(d: &Datom) -> [u64; 4] {
+        [d.entity.0, d.attribute.0, d.value.0, d.transaction_operation]
     }
+}
+
+fn comes_before<Order: DatomOrd>(x: &Datom, y: &Datom) -> bool {
+    let (x, y) = (Order::words(x), Order::words(y));
+    for i in 0..4 {
+        if x[i] != y[i] {
+            return x[i] < y[i];
+        }
+    }
+    false
+}
+
+// By halves: the first datom that does not come before the key.
+fn bound<Order: DatomOrd>(datoms: &[Datom], key: &Datom) -> usize {
+    let (mut low, mut high) = (0, datoms.len());
+    while low < high {
+        let middle = low + (high - low) / 2;
+        if comes_before::<Order>(&datoms[middle], key) {
+            low = middle + 1;
+        } else {
+            high = middle;
+        }
+    }
+    low
 }
 
 pub struct Index<'a, Order> {
@@ -59,10 +79,8 @@ pub struct Index<'a, Order> {
 impl<'a, Order: DatomOrd> Index<'a, Order> {
     // The datoms from min up to max, which is left out.
     pub fn into_iter(self, min: &Datom, max: &Datom) -> slice::Iter<'a, Datom> {
-        let from = self.datoms.partition_point(|d| Order::cmp(d, min) == Ordering::Less);
-        let rest = &self.datoms[from..];
-        let count = rest.partition_point(|d| Order::cmp(d, max) == Ordering::Less);
-        rest[..count].iter()
+        let rest = &self.datoms[bound::<Order>(self.datoms, min)..];
+        rest[..bound::<Order>(rest, max)].iter()
     }
 }
 
@@ -78,7 +96,7 @@ pub struct View<'a, Store: 'a + store::Store, Heap: 'a + heap::Heap> {
 fn sorted<Order: DatomOrd>(facts: &[(u64, u64, u64)], transaction: Tid) -> Vec<Datom> {
     let datom = |f: &(u64, u64, u64)| Datom::new(Eid(f.0), Aid(f.1), Value(f.2), transaction, Operation::Assert);
     let mut datoms: Vec<Datom> = facts.iter().map(datom).collect();
-    datoms.sort_by(Order::cmp);
+    datoms.sort_by_key(Order::words);
     datoms
 }
 
