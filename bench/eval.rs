@@ -40,8 +40,10 @@ extern "C" {
 }
 
 const FACTS: usize = 600;
-const TIMES: u64 = 100;
-const ROUNDS: usize = 31;
+const ROUNDS: usize = 301;
+
+// About so long is a round of 002, in microseconds: long enough for the clock, and short beside what else the machine does.
+const ROUND: f64 = 1000.0;
 
 // The Rattle: checks, and then so many evaluations.
 fn ours(text: &str, times: u64, t: &[Vec<u64>; 3], rows: &mut [u64]) -> usize {
@@ -110,17 +112,19 @@ fn main() {
         let mut rows = vec![0; want.len()];
         let count = ours(&text, 1, &t, &mut rows);
         assert_eq!((count * case.select.len(), &rows), (want.len(), &want));
+        let once = median((0..ROUNDS).map(|_| time(|| theirs(&plan, &view))).collect());
+        let times = (ROUND / once) as u64 + 1;
         let (mut old, mut new, mut ratios) = (Vec::new(), Vec::new(), Vec::new());
         for _ in 0..ROUNDS {
-            let rust = time(|| for _ in 0..TIMES { theirs(&plan, &view) }) / TIMES as f64;
+            let rust = time(|| for _ in 0..times { theirs(&plan, &view) }) / times as f64;
             let checks = time(|| { black_box(ours(&text, 0, &t, &mut rows)); });
-            let rattle = (time(|| { black_box(ours(&text, TIMES, &t, &mut rows)); }) - checks) / TIMES as f64;
+            let rattle = (time(|| { black_box(ours(&text, times, &t, &mut rows)); }) - checks) / times as f64;
             old.push(rust);
             new.push(rattle);
             ratios.push(rattle / rust);
         }
         println!("{}: {} rows, 002 {:.1} us, here {:.1} us, ratio {:.2}", name, count, median(old), median(new), median(ratios));
     }
-    let checks = (0..ROUNDS).map(|_| time(|| for _ in 0..TIMES { black_box(check(&t)); }) / TIMES as f64).collect();
+    let checks = (0..ROUNDS).map(|_| time(|| { black_box(check(&t)); })).collect();
     println!("the check of the tables: {:.1} us", median(checks));
 }
