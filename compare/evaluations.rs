@@ -1,16 +1,32 @@
-// Writes what crates/evaluations must write, by a plain reading of document 01: nested loops over all rows of a table, each row
-// tested. Not 002 itself, which wants a store; a comparison with that is still to come.
-const LARGEST: u64 = std::u64::MAX;
+// Writes cases for crates/evaluations, or the answers to them, by a plain reading of document 01: the refusals in its order, and the
+// rows by nested loops over all rows of a table, each row tested. compare/answers.rs holds rows to 002 itself.
+mod plan_cases;
+mod random;
 
-#[derive(Clone)]
-struct Plan {
-    // index, flow (0 out-out, 1 in-out, 2 in-in), entity, attribute, value
-    scans: Vec<(usize, usize, usize, u64, usize)>,
-    // a constant's value
-    slots: Vec<Option<u64>>,
-    select: Vec<usize>,
+use plan_cases::{case, check, e, numbers, text, Case, Verdict};
+use random::Random;
+
+const LARGEST: u64 = u64::max_value();
+
+// The room of a buffer that shows a refusal, and what its words hold before.
+const ROOM: usize = 6;
+const HELD: u64 = 77;
+
+// What the Rattle program has room for: cases over the same tables, and bytes of input.
+const CASES: usize = 100;
+const INPUT: usize = 65536;
+
+type Tables = [Vec<u64>; 3];
+
+// A plan, the row to start at, and the words of room.
+struct Window(Case, u64, usize);
+
+struct Group {
+    tables: Tables,
+    windows: Vec<Window>,
 }
 
+// A row's fact: entity, attribute, value.
 fn fact(index: usize, row: &[u64]) -> (u64, u64, u64) {
     match index {
         0 => (row[1], row[0], row[2]),
@@ -19,12 +35,13 @@ fn fact(index: usize, row: &[u64]) -> (u64, u64, u64) {
     }
 }
 
-fn rows(plan: &Plan, tables: [&[u64]; 3], i: usize, slots: &mut Vec<u64>, out: &mut Vec<Vec<u64>>) {
+fn rows(plan: &Case, tables: &Tables, i: usize, slots: &mut Vec<u64>, out: &mut Vec<Vec<u64>>) {
     if i == plan.scans.len() {
-        out.push(plan.select.iter().map(|k| slots[*k]).collect());
+        out.push(plan.select.iter().map(|k| slots[*k as usize]).collect());
         return;
     }
     let (index, flow, entity, attribute, value) = plan.scans[i];
+    let (entity, value) = (entity as usize, value as usize);
     for row in tables[index].chunks(3) {
         let (e, a, v) = fact(index, row);
         let entity_in = flow == 2 || (flow == 1 && index != 1);
@@ -39,116 +56,297 @@ fn rows(plan: &Plan, tables: [&[u64]; 3], i: usize, slots: &mut Vec<u64>, out: &
     }
 }
 
-fn table_fault(tables: [&[u64]; 3]) -> Option<(u64, usize)> {
-    if tables[0].len() % 3 != 0 || tables[1].len() != tables[0].len() || tables[2].len() != tables[0].len() {
+// 1, 2 at the first such table, 3 at the first such row.
+fn table_fault(tables: &Tables) -> Verdict {
+    if tables.iter().any(|t| t.len() % 3 != 0 || t.len() != tables[0].len()) {
         return Some((1, 0));
     }
     for (i, table) in tables.iter().enumerate() {
         let all: Vec<&[u64]> = table.chunks(3).collect();
         if all.windows(2).any(|w| w[0] >= w[1]) {
-            return Some((2, i));
+            return Some((2, i as u64));
         }
     }
     for (i, row) in tables[0].chunks(3).enumerate() {
         let (e, a, v) = fact(0, row);
         if !tables[1].chunks(3).any(|r| r == [a, v, e]) || !tables[2].chunks(3).any(|r| r == [e, a, v]) {
-            return Some((3, i));
+            return Some((3, i as u64));
         }
     }
     None
 }
 
-fn show(plan: &Plan, checked: Option<(u64, usize)>, tables: [&[u64]; 3], from: u64, room: usize) {
-    let mut buffer = vec![77u64; 6];
-    let empty = if plan.scans.is_empty() { Some((28, 0)) } else { None };
-    let (verdict, count, more) = match checked.or(empty).or(table_fault(tables)) {
-        Some((number, place)) => (format!("refused {} at {}", number, place), 0, false),
-        None => {
-            let mut out = Vec::new();
-            let mut slots = plan.slots.iter().map(|s| s.unwrap_or(0)).collect();
-            rows(plan, tables, 0, &mut slots, &mut out);
-            let width = plan.select.len();
-            let left: Vec<_> = out.iter().skip(std::cmp::min(from, out.len() as u64) as usize).collect();
-            let count = std::cmp::min(left.len(), room / width);
-            for i in 0..count {
-                buffer[i * width..(i + 1) * width].copy_from_slice(left[i]);
-            }
-            ("fine".to_string(), count, left.len() > count)
+// Evaluation: the plan check, 28, 1, 2, 3.
+fn refusal(plan: &Case, tables: &Tables) -> Verdict {
+    let empty = if plan.scan_count == 0 { Some((28, 0)) } else { None };
+    check(plan).or(empty).or(table_fault(tables))
+}
+
+fn answer(tables: &Tables, window: &Window) -> String {
+    let &Window(ref plan, from, room) = window;
+    let mut buffer = vec![HELD; room];
+    let verdict = refusal(plan, tables);
+    let (mut count, mut more) = (0, false);
+    if verdict.is_none() {
+        let mut out = Vec::new();
+        let mut slots = plan.slots.iter().map(|s| s.1).collect();
+        rows(plan, tables, 0, &mut slots, &mut out);
+        let width = plan.select.len();
+        let left: Vec<_> = out.iter().skip(std::cmp::min(from, out.len() as u64) as usize).collect();
+        count = std::cmp::min(left.len(), room / width);
+        more = left.len() > count;
+        for i in 0..count {
+            buffer[i * width..(i + 1) * width].copy_from_slice(left[i]);
         }
-    };
-    let words: String = buffer[..room].iter().map(|w| format!(" {}", w)).collect();
-    println!("{}, rows {}, {} buffer{}", verdict, count, if more { "more follow," } else { "none follows," }, words);
+    }
+    let words: String = buffer.iter().map(|w| format!(" {}", w)).collect();
+    format!("{}, rows {}, {} buffer{}", text(verdict), count, if more { "more follow," } else { "none follows," }, words)
 }
 
-fn plan_e() -> Plan {
-    Plan { scans: vec![(0, 0, 0, 5, 1), (0, 2, 1, 9, 2)], slots: vec![None, None, Some(7)], select: vec![1] }
+fn group_numbers(group: &Group) -> String {
+    let mut out = Vec::new();
+    for table in &group.tables {
+        out.push(table.len().to_string());
+        out.extend(table.iter().map(|w| w.to_string()));
+    }
+    out.push(group.windows.len().to_string());
+    for &Window(ref plan, from, room) in &group.windows {
+        out.push(format!("{} {} {}", numbers(plan), from, room));
+    }
+    out.join(" ")
 }
 
-fn plan_all(index: usize, attribute: u64) -> Plan {
-    Plan { scans: vec![(index, 0, 0, attribute, 1)], slots: vec![None, None], select: vec![0, 1] }
+// All facts of an attribute, over an index; selects entity and value.
+fn all(index: usize, attribute: u64) -> Case {
+    case(vec![(index, 0, 0, attribute, 1)], vec![(false, 0); 2], vec![0, 1])
 }
 
-fn plan_none() -> Plan {
-    Plan { scans: vec![], slots: vec![Some(7)], select: vec![0] }
+// A constant and no scans.
+fn none() -> Case {
+    case(vec![], vec![(true, 7)], vec![0])
 }
 
-fn plan_of_value(value: u64) -> Plan {
-    Plan { scans: vec![(1, 1, 0, 5, 1)], slots: vec![None, Some(value)], select: vec![0] }
+// The entities that have a value for attribute 5, over avet.
+fn of_value(value: u64) -> Case {
+    case(vec![(1, 1, 0, 5, 1)], vec![(false, 0), (true, value)], vec![0])
 }
 
-fn main() {
-    let aevt = [5, 1, 10, 5, 1, 11, 5, 2, 11, 9, 10, 6, 9, 11, 7];
-    let avet = [5, 10, 1, 5, 11, 1, 5, 11, 2, 9, 6, 10, 9, 7, 11];
-    let eavt = [1, 5, 10, 1, 5, 11, 2, 5, 11, 10, 9, 6, 11, 9, 7];
-    let bench = [&aevt[..], &avet[..], &eavt[..]];
+// 01's bench: (1,5,10) (1,5,11) (2,5,11) (10,9,6) (11,9,7).
+fn bench() -> Tables {
+    [
+        vec![5, 1, 10, 5, 1, 11, 5, 2, 11, 9, 10, 6, 9, 11, 7],
+        vec![5, 10, 1, 5, 11, 1, 5, 11, 2, 9, 6, 10, 9, 7, 11],
+        vec![1, 5, 10, 1, 5, 11, 2, 5, 11, 10, 9, 6, 11, 9, 7],
+    ]
+}
+
+// Every window of a few sizes over the bench.
+fn windows() -> Group {
+    let mut windows = Vec::new();
     for from in 0..4 {
         for room in 0..4 {
-            show(&plan_e(), None, bench, from, room);
+            windows.push(Window(e(0, 0), from, room));
         }
     }
     for from in 0..4 {
         for room in 0..7 {
-            show(&plan_all(0, 5), None, bench, from, room);
-            show(&plan_all(1, 5), None, bench, from, room);
+            windows.push(Window(all(0, 5), from, room));
+            windows.push(Window(all(1, 5), from, room));
         }
     }
-    show(&plan_e(), None, bench, LARGEST, 6);
-    // The plan check: no selects; a select that names no slot.
-    show(&plan_e(), Some((13, 0)), bench, 0, 6);
-    show(&plan_none(), Some((26, 0)), bench, 0, 6);
-    show(&plan_none(), None, [&avet, &avet, &eavt], 0, 6);
-    show(&plan_e(), None, [&eavt, &avet, &eavt], 0, 6);
-    show(&plan_e(), None, [&aevt[..14], &avet[..14], &eavt[..14]], 0, 6);
-    show(&plan_e(), None, [&aevt, &avet[..12], &eavt], 0, 6);
-    show(&plan_e(), None, [&aevt, &avet, &eavt[..12]], 0, 6);
-    let change = |table: &[u64; 15], at: usize, word: u64| {
-        let mut t = *table;
-        t[at] = word;
+    windows.push(Window(e(0, 0), LARGEST, ROOM));
+    Group { tables: bench(), windows: windows }
+}
+
+// E with one thing changed.
+fn changed(change: &Fn(&mut Case)) -> Case {
+    let mut plan = e(0, 0);
+    change(&mut plan);
+    plan
+}
+
+// The plan check's refusals, each with the number and the place that 01's table gives it.
+fn damaged_plans() -> Vec<((u64, u64), Case)> {
+    let unselected = |c: &mut Case| {
+        c.select.clear();
+        c.select_count = 0;
+    };
+    let unset = |c: &mut Case, n: u64| {
+        for _ in 0..n {
+            c.slots.push((false, 0));
+        }
+        c.slot_count += n;
+    };
+    let selecting = |slots: &[u16]| {
+        let mut plan = e(0, 0);
+        plan.select = slots.to_vec();
+        plan.select_count = slots.len() as u64;
+        plan
+    };
+    vec![
+        // 20 at each count, at the largest number, and before 13
+        ((20, 0), changed(&|c| c.slot_count = 97)),
+        ((20, 0), changed(&|c| c.scan_count = 49)),
+        ((20, 0), changed(&|c| c.select_count = 33)),
+        ((20, 0), changed(&|c| c.slot_count = LARGEST)),
+        ((20, 0), changed(&|c| c.scan_count = LARGEST)),
+        ((20, 0), changed(&|c| c.select_count = LARGEST)),
+        ((20, 0), changed(&|c| { unselected(c); c.slot_count = 97 })),
+        // 13, and before 21
+        ((13, 0), changed(&|c| unselected(c))),
+        ((13, 0), changed(&|c| { unselected(c); c.scans[0].0 = 2 })),
+        // 21 at either scan, and before the scan's 22
+        ((21, 0), changed(&|c| c.scans[0].0 = 2)),
+        ((21, 1), changed(&|c| { c.scans[1].0 = 2; c.scans[1].1 = 0 })),
+        ((21, 1), changed(&|c| c.scans[1] = (2, 0, 3, 9, 3))),
+        // 22 at the first and at the second slot, at scan 0 and past it
+        ((22, 1), changed(&|c| c.scans[1].2 = 3)),
+        ((22, 1), changed(&|c| c.scans[1].4 = 3)),
+        ((22, 1), changed(&|c| c.scans[1].2 = 65535)),
+        ((22, 1), changed(&|c| { c.scans[1].0 = 1; c.scans[1].4 = 65535 })),
+        ((22, 0), changed(&|c| c.scans[0].2 = 3)),
+        ((22, 0), changed(&|c| c.scans[0].4 = 3)),
+        // 23 at the first slot, at the second, and out-out on one slot
+        ((23, 1), changed(&|c| c.scans[1].1 = 0)),
+        ((23, 1), changed(&|c| c.scans[1].1 = 1)),
+        ((23, 0), changed(&|c| c.scans[0].4 = 0)),
+        ((23, 0), changed(&|c| c.scans[0].4 = 2)),
+        // 24 at the first slot and at the second, at scan 0 and past it
+        ((24, 0), changed(&|c| c.scans[0].1 = 2)),
+        ((24, 0), changed(&|c| { c.scans[0].1 = 2; c.scans[0].2 = 2 })),
+        ((24, 0), changed(&|c| c.scans[0].1 = 1)),
+        ((24, 1), changed(&|c| { unset(c, 1); c.scans[1].2 = 3 })),
+        ((24, 1), changed(&|c| { unset(c, 1); c.scans[1].4 = 3 })),
+        // the two slots in index order: over aevt the entity's fault comes first, over avet the value's
+        ((22, 1), changed(&|c| { unset(c, 1); c.scans[1].2 = 4; c.scans[1].4 = 3 })),
+        ((24, 1), changed(&|c| { unset(c, 1); c.scans[1].0 = 1; c.scans[1].2 = 4; c.scans[1].4 = 3 })),
+        // 25 at the lowest slot, and before 26
+        ((25, 3), changed(&|c| unset(c, 1))),
+        ((25, 3), changed(&|c| unset(c, 2))),
+        ((25, 0), changed(&|c| { c.scans[0] = (0, 1, 2, 5, 1) })),
+        ((25, 3), changed(&|c| { unset(c, 1); c.select[0] = 4 })),
+        // 26 at the first such select
+        ((26, 0), selecting(&[3])),
+        ((26, 1), selecting(&[1, 3])),
+        ((26, 2), selecting(&[1, 0, 65535, 3])),
+        // the plan check comes before 28
+        ((26, 0), case(vec![], vec![(true, 7)], vec![1])),
+        ((25, 0), case(vec![], vec![(false, 0)], vec![0])),
+        ((28, 0), none()),
+    ]
+}
+
+// The tables' refusals, likewise.
+fn damaged_tables() -> Vec<((u64, u64), Tables)> {
+    let cut = |lengths: [usize; 3]| {
+        let mut t = bench();
+        for i in 0..3 {
+            t[i].truncate(lengths[i]);
+        }
         t
     };
-    show(&plan_e(), None, [&change(&aevt, 5, 10), &avet, &eavt], 0, 6);
-    show(&plan_e(), None, [&aevt, &change(&avet, 9, 4), &eavt], 0, 6);
-    show(&plan_e(), None, [&aevt, &avet, &change(&eavt, 12, 9)], 0, 6);
-    show(&plan_e(), None, [&aevt, &avet, &change(&eavt, 14, 8)], 0, 6);
-    show(&plan_e(), None, [&aevt, &change(&avet, 14, 12), &eavt], 0, 6);
+    let with = |changes: &[(usize, usize, u64)]| {
+        let mut t = bench();
+        for &(table, at, word) in changes {
+            t[table][at] = word;
+        }
+        t
+    };
+    let others = bench();
+    vec![
+        // 1: no multiple of 3, in all tables or in one; lengths that differ; and before 2
+        ((1, 0), cut([14, 14, 14])),
+        ((1, 0), cut([13, 13, 13])),
+        ((1, 0), cut([1, 1, 1])),
+        ((1, 0), cut([14, 15, 15])),
+        ((1, 0), cut([15, 14, 15])),
+        ((1, 0), cut([15, 15, 13])),
+        ((1, 0), cut([12, 15, 15])),
+        ((1, 0), cut([15, 12, 15])),
+        ((1, 0), cut([15, 15, 12])),
+        ((1, 0), cut([0, 3, 0])),
+        ((1, 0), [others[2].clone(), others[0].clone(), vec![2, 0, 0, 1, 0, 0]]),
+        // 2 at each table: equal rows, rows that fall, at the last row; at the first such table, and before 3
+        ((2, 0), with(&[(0, 5, 10)])),
+        ((2, 1), with(&[(1, 9, 4)])),
+        ((2, 2), with(&[(2, 12, 9)])),
+        ((2, 0), with(&[(0, 14, 0), (0, 13, 10), (2, 12, 9)])),
+        ((2, 1), with(&[(1, 14, 5), (1, 13, 6), (2, 0, 9)])),
+        ((2, 2), with(&[(2, 3, 1), (2, 5, 9), (0, 0, 4)])),
+        // 3 at row 0 and at rows past it: missing in eavt only, in avet only, in both; at the first such row
+        ((3, 0), [others[2].clone(), others[1].clone(), others[2].clone()]),
+        ((3, 0), with(&[(1, 1, 9)])),
+        ((3, 1), with(&[(1, 4, 10), (1, 5, 2)])),
+        ((3, 2), with(&[(2, 8, 12)])),
+        ((3, 3), with(&[(1, 11, 9)])),
+        ((3, 4), with(&[(2, 14, 8)])),
+        ((3, 4), with(&[(1, 14, 12)])),
+        ((3, 4), with(&[(0, 14, 9)])),
+        ((3, 2), with(&[(2, 8, 12), (1, 14, 12)])),
+        ((3, 0), with(&[(0, 0, 4)])),
+    ]
+}
+
+// A word of one table changed.
+fn drawn(random: &mut Random) -> Tables {
+    let mut t = bench();
+    let table = random.below(3) as usize;
+    let at = random.below(15) as usize;
+    t[table][at] = random.below(13);
+    t
+}
+
+fn over(tables: Tables, plans: &[Case], room: usize) -> Group {
+    Group { tables: tables, windows: plans.iter().map(|p| Window(p.clone(), 0, room)).collect() }
+}
+
+fn groups() -> Vec<Group> {
+    let mut out = vec![windows()];
+    let plans = damaged_plans();
+    for &(expected, ref plan) in &plans {
+        assert_eq!(refusal(plan, &bench()), Some(expected));
+    }
+    out.push(over(bench(), &plans.iter().map(|p| p.1.clone()).collect::<Vec<_>>(), ROOM));
+    for (expected, tables) in damaged_tables() {
+        assert_eq!(refusal(&e(0, 0), &tables), Some(expected));
+        // The plan check and 28 come before the tables are looked at.
+        out.push(over(tables, &[e(0, 0), none(), e(2, 0)], ROOM));
+    }
+    let mut random = Random(20260103);
+    for _ in 0..100 {
+        out.push(over(drawn(&mut random), &[e(0, 0)], ROOM));
+    }
+    // (2^64 - 1, 5, 2^64 - 1) and (1, 2^64 - 1, 2): the largest number in each column, and no facts at all.
     let m = LARGEST;
-    let large: [&[u64]; 3] = [&[5, m, m, m, 1, 2], &[5, m, m, m, 2, 1], &[1, m, 2, m, 5, m]];
-    show(&plan_all(0, 5), None, large, 0, 4);
-    show(&plan_all(1, 5), None, large, 0, 4);
-    show(&plan_all(0, m), None, large, 0, 4);
-    show(&plan_all(1, m), None, large, 0, 4);
-    show(&plan_of_value(m), None, large, 0, 4);
-    show(&plan_of_value(2), None, large, 0, 4);
-    show(&plan_all(0, 5), None, [&[], &[], &[]], 0, 4);
+    let large = [vec![5, m, m, m, 1, 2], vec![5, m, m, m, 2, 1], vec![1, m, 2, m, 5, m]];
+    out.push(over(large, &[all(0, 5), all(1, 5), all(0, m), all(1, m), of_value(m), of_value(2)], 4));
+    out.push(over([vec![], vec![], vec![]], &[all(0, 5)], 4));
+    // 600 facts (i, 5, i + 1)
     let mut many = [Vec::new(), Vec::new(), Vec::new()];
     for i in 0..600 {
-        many[0].extend([5, i, i + 1].iter().cloned());
-        many[1].extend([5, i + 1, i].iter().cloned());
-        many[2].extend([i, 5, i + 1].iter().cloned());
+        many[0].extend([5, i, i + 1].iter());
+        many[1].extend([5, i + 1, i].iter());
+        many[2].extend([i, 5, i + 1].iter());
     }
-    let many: [&[u64]; 3] = [&many[0], &many[1], &many[2]];
-    show(&plan_all(0, 5), None, many, 0, 6);
-    show(&plan_all(1, 5), None, many, 597, 6);
-    show(&plan_all(0, 5), None, many, 598, 6);
-    show(&plan_all(0, 5), None, many, 600, 6);
+    let windows = vec![Window(all(0, 5), 0, 6), Window(all(1, 5), 597, 6), Window(all(0, 5), 598, 6), Window(all(0, 5), 600, 6)];
+    out.push(Group { tables: many, windows: windows });
+    out
+}
+
+fn main() {
+    let answers = std::env::args().nth(1) == Some("answers".to_string());
+    let mut input = 0;
+    for group in &groups() {
+        assert!(group.windows.len() <= CASES);
+        let line = group_numbers(group);
+        input += line.len() + 1;
+        assert!(input < INPUT);
+        if !answers {
+            println!("{}", line);
+            continue;
+        }
+        for window in &group.windows {
+            println!("{}", answer(&group.tables, window));
+        }
+    }
 }

@@ -1,77 +1,17 @@
 // Writes cases for crates/plans, or the answers to them: plans of every kind, and what 001 makes of them (compare/run says how it
-// is built, with a stand-in for `datom`). The check is read off document 01's table here, independently of the Rattle;
+// is built, with a stand-in for `datom`). The check is read off document 01's table (compare/plan_cases.rs), independently of the Rattle;
 // the cost is 001's own wherever it fits a u64 and 001 does not panic, and is summed in 128 bits to know where that is.
 #[path = "../target/compare/plan.rs"]
 mod plan;
 
+mod plan_cases;
 mod datom;
 mod random;
+mod rust_plan;
 
-use datom::{Aid, Value};
-use plan::{Flow, Index, Plan, Scan, Slot, SlotDefinition};
+use plan_cases::{case, check, e, in_order, numbers, text, Case, Verdict, SCANS, SELECTS, SLOTS};
 use random::Random;
-
-const SCANS: usize = 48;
-const SLOTS: usize = 96;
-const SELECTS: usize = 32;
-
-// A plan as the Rattle has it: what is given of its arrays, and counts that may claim anything.
-#[derive(Clone)]
-struct Case {
-    scan_count: u64,
-    slot_count: u64,
-    select_count: u64,
-    scans: Vec<(usize, usize, u16, u64, u16)>,
-    slots: Vec<(bool, u64)>,
-    select: Vec<u16>,
-}
-
-type Verdict = Option<(u64, u64)>;
-
-fn in_order(scan: &(usize, usize, u16, u64, u16)) -> [usize; 2] {
-    let (index, _, entity, _, value) = *scan;
-    if index == 1 { [value as usize, entity as usize] } else { [entity as usize, value as usize] }
-}
-
-// 01's table, plan check: 20, 13, then scan by scan (21; 22, then 23 or 24 for each slot), then 25, 26.
-fn check(case: &Case) -> Verdict {
-    if case.slot_count > SLOTS as u64 || case.scan_count > SCANS as u64 || case.select_count > SELECTS as u64 {
-        return Some((20, 0));
-    }
-    if case.select_count == 0 {
-        return Some((13, 0));
-    }
-    let mut set: Vec<bool> = case.slots.iter().map(|s| s.0).collect();
-    for (i, scan) in case.scans.iter().enumerate() {
-        if scan.1 == 0 && scan.0 == 2 {
-            return Some((21, i as u64));
-        }
-        let writes = [scan.1 == 0, scan.1 != 2];
-        for (slot, &write) in in_order(scan).iter().zip(writes.iter()) {
-            if *slot >= set.len() {
-                return Some((22, i as u64));
-            }
-            if write && set[*slot] {
-                return Some((23, i as u64));
-            }
-            if !write && !set[*slot] {
-                return Some((24, i as u64));
-            }
-            set[*slot] = true;
-        }
-    }
-    for (i, is_set) in set.iter().enumerate() {
-        if !is_set {
-            return Some((25, i as u64));
-        }
-    }
-    for (i, slot) in case.select.iter().enumerate() {
-        if *slot as usize >= set.len() {
-            return Some((26, i as u64));
-        }
-    }
-    None
-}
+use rust_plan::rust_plan;
 
 // 20, then 21, then 27 at the scan at which, from the last, the cost first passes 2^64 - 1.
 fn cost_fault(case: &Case) -> Verdict {
@@ -99,34 +39,6 @@ fn cost_fault(case: &Case) -> Verdict {
     None
 }
 
-fn rust_plan(case: &Case) -> Plan {
-    Plan {
-        scans: case
-            .scans
-            .iter()
-            .map(|s| Scan {
-                index: [Index::Aevt, Index::Avet, Index::Eavt][s.0].clone(),
-                flow: [Flow::OutOut, Flow::InOut, Flow::InIn][s.1].clone(),
-                entity: Slot(s.2),
-                attribute: Aid(s.3),
-                value: Slot(s.4),
-            })
-            .collect(),
-        slots: case
-            .slots
-            .iter()
-            .map(|s| {
-                if s.0 {
-                    SlotDefinition::Constant { value: Value(s.1) }
-                } else {
-                    SlotDefinition::Variable { name: String::new() }
-                }
-            })
-            .collect(),
-        select: case.select.iter().map(|s| Slot(*s)).collect(),
-    }
-}
-
 // 001's check tests a scan's slots against the number of scans: it is held to 01's where no scan names a slot between the two.
 fn agrees_with_001(case: &Case, verdict: Verdict) {
     let slip = case.scans.iter().any(|s| in_order(s).iter().any(|k| (*k < case.slots.len()) != (*k < case.scans.len())));
@@ -142,13 +54,6 @@ fn agrees_with_001(case: &Case, verdict: Verdict) {
     assert_eq!(passes, verdict.is_none(), "001 and 01 part");
 }
 
-fn text(verdict: Verdict) -> String {
-    match verdict {
-        Some((number, place)) => format!("refused {} at {}", number, place),
-        None => "fine".to_string(),
-    }
-}
-
 fn answer(case: &Case) -> String {
     let verdict = check(case);
     agrees_with_001(case, verdict);
@@ -157,35 +62,6 @@ fn answer(case: &Case) -> String {
         fault => text(fault),
     };
     format!("check {}, cost {}", text(verdict), cost)
-}
-
-fn numbers(case: &Case) -> String {
-    let mut out = vec![case.scan_count, case.slot_count, case.select_count];
-    out.extend([case.scans.len() as u64, case.slots.len() as u64, case.select.len() as u64].iter());
-    for s in &case.scans {
-        out.extend([s.0 as u64, s.1 as u64, s.2 as u64, s.3, s.4 as u64].iter());
-    }
-    for s in &case.slots {
-        out.extend([s.0 as u64, s.1].iter());
-    }
-    out.extend(case.select.iter().map(|s| *s as u64));
-    out.iter().map(|n| n.to_string()).collect::<Vec<_>>().join(" ")
-}
-
-fn case(scans: Vec<(usize, usize, u16, u64, u16)>, slots: Vec<(bool, u64)>, select: Vec<u16>) -> Case {
-    Case {
-        scan_count: scans.len() as u64,
-        slot_count: slots.len() as u64,
-        select_count: select.len() as u64,
-        scans: scans,
-        slots: slots,
-        select: select,
-    }
-}
-
-// 01's E with the given indexes.
-fn e(first: usize, second: usize) -> Case {
-    case(vec![(first, 0, 0, 5, 1), (second, 2, 1, 9, 2)], vec![(false, 0), (false, 0), (true, 7)], vec![1])
 }
 
 // n out-out aevt scans on one attribute, each on two slots of its own.

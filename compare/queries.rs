@@ -6,14 +6,16 @@ mod plan;
 #[path = "../target/compare/planner.rs"]
 mod planner;
 
-mod cases;
 mod datom;
+mod plan_line;
 mod query;
+mod query_cases;
 mod random;
 
-use cases::{bound_twice, case, chain, numbers, plan_text, query_refusal, Case};
 use plan::{Index, Plan};
+use plan_line::plan_text;
 use planner::Planner;
+use query_cases::{case, chain, numbers, refusal, Case};
 use random::Random;
 
 // The plans of a query are listed up to this many.
@@ -40,11 +42,10 @@ fn cost_text(plan: &Plan) -> String {
 }
 
 fn answer(case: &Case) -> String {
-    let refusal = query_refusal(case).or(bound_twice(&case.statements).map(|i| (16, i as u64)));
-    if let Some((number, place)) = refusal {
+    if let Some((number, place)) = refusal(case) {
         return format!("refused {} at {}", number, place);
     }
-    let query = cases::query(case);
+    let query = query_cases::query_of(case);
     let mut planner = Planner::new(&query);
     planner.initialize_scans();
     let mut out = format!("{}; plans", plan_text(planner.get_plan()));
@@ -91,7 +92,7 @@ fn all_cases() -> Vec<Case> {
     all.push(case(3, &e, &[1]));
     let mut source = Random(20260102);
     for _ in 0..700 {
-        all.push(cases::random(&mut source));
+        all.push(query_cases::random(&mut source));
     }
     all
 }

@@ -1,4 +1,4 @@
-// 003's types that 000 uses, as they stand there; 003 itself wants a store.
+// A stand-in for noblit's `query`: the types that planner.rs uses, as they stand there.
 use datom::{Aid, Value};
 #[derive(Copy, Clone, Debug, Eq, PartialEq)]
 pub struct Var(pub u16);

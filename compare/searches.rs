@@ -8,14 +8,16 @@ mod plan;
 #[path = "../target/compare/planner.rs"]
 mod planner;
 
-mod cases;
 mod datom;
+mod plan_line;
 mod query;
+mod query_cases;
 mod random;
 
-use cases::{bound_twice, case, chain, numbers, plan_text, query_refusal, Case};
 use permutation::Permutations;
+use plan_line::plan_text;
 use planner::Planner;
+use query_cases::{bound_twice, case, chain, numbers, query_refusal, Case};
 use random::Random;
 
 const SEARCHED: usize = 6;
@@ -29,7 +31,7 @@ fn cheapest(case: &Case) -> Option<(Vec<usize>, String, u64)> {
         let mut arranged = case.clone();
         arranged.statements = order.iter().map(|i| case.statements[*i]).collect();
         if bound_twice(&arranged.statements).is_none() {
-            let query = cases::query(&arranged);
+            let query = query_cases::query_of(&arranged);
             let mut planner = Planner::new(&query);
             planner.initialize_scans();
             loop {
@@ -85,11 +87,11 @@ fn all_cases() -> Vec<Case> {
     all.push(case(8, &chain(7, 0).statements, &[8]));
     let mut source = Random(20260111);
     for _ in 0..400 {
-        all.push(cases::random(&mut source));
+        all.push(query_cases::random(&mut source));
     }
     // of some statements, one or two bind a variable twice
     for _ in 0..100 {
-        let mut c = cases::random(&mut source);
+        let mut c = query_cases::random(&mut source);
         for _ in 0..2 {
             let i = source.below(c.statements.len() as u64 + 1) as usize;
             let v = source.below(c.variables) as u16;

@@ -1,15 +1,15 @@
-// Answers queries given as decimal numbers (crate `cases`): the refusal, or the plan, the plans listed from it with their costs, and
+// Answers queries given as decimal numbers (crate `given`): the refusal, or the plan, the plans listed from it with their costs, and
 // the indexes that stand again after the last. stdin and stdout are written by the Rust (compare/queries.rs).
 use capacity::MAX_SCANS;
-use cases::index_number;
-use cases::put;
-use cases::put_number;
 use libc::STDIN_FILENO;
 use plan::Plan;
 use plan::Scan;
 use planner::Planned;
 use query::Query;
 use refusal::Verdict;
+use written::index_number;
+use written::put;
+use written::put_number;
 
 // How many plans are listed at the most, and up to how many scans the cost is asked.
 const LISTED: usize = 60;
@@ -101,9 +101,9 @@ fn put_answer(query: Query) {
     let verdict = planned.verdict;
     let plan = planned.plan;
     match verdict {
-        Verdict::Refused(r) => cases::put_refusal(r),
+        Verdict::Refused(r) => written::put_refusal(r),
         Verdict::Fine => {
-            cases::put_plan(plan);
+            written::put_plan(plan);
             put(b"; plans");
             put_listing(plan);
         }
@@ -115,7 +115,7 @@ fn put_answer(query: Query) {
 fn put_all(text: &[u8]) {
     let mut at: usize = 0;
     while numbers::skip(text, at) < text.len() {
-        let reading = cases::read_query(text, at);
+        let reading = given::read_query(text, at);
         let query = reading.query;
         put_answer(query);
         if reading.next <= at {

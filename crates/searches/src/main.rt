@@ -1,12 +1,12 @@
-// Searches queries given as decimal numbers (crate `cases`): the refusal, or the order, the cost and the plan. stdin and stdout are
+// Searches queries given as decimal numbers (crate `given`): the refusal, or the order, the cost and the plan. stdin and stdout are
 // written by the Rust (compare/searches.rs).
 use capacity::MAX_SEARCHED;
-use cases::put;
-use cases::put_number;
 use libc::STDIN_FILENO;
 use query::Query;
 use refusal::Verdict;
 use search::Found;
+use written::put;
+use written::put_number;
 
 // A number, with a space before it.
 fn put_after(number: usize) {
@@ -57,7 +57,7 @@ fn put_found(found: Found) {
     let order = found.order;
     let plan = found.plan;
     match verdict {
-        Verdict::Refused(r) => cases::put_refusal(r),
+        Verdict::Refused(r) => written::put_refusal(r),
         Verdict::Fine => put(b"found"),
     }
     put(b", order");
@@ -65,7 +65,7 @@ fn put_found(found: Found) {
     put(b", cost ");
     put_number(found.cost);
     put(b", ");
-    cases::put_plan(plan);
+    written::put_plan(plan);
     put(b"\n");
 }
 
@@ -73,7 +73,7 @@ fn put_found(found: Found) {
 fn put_all(text: &[u8]) {
     let mut at: usize = 0;
     while numbers::skip(text, at) < text.len() {
-        let reading = cases::read_query(text, at);
+        let reading = given::read_query(text, at);
         let query = reading.query;
         let found = found_in(query);
         put_found(found);

@@ -127,6 +127,13 @@ pub fn bound(
 {
     let mut low = from;
     let mut high = table.len() / WORDS;
+    if high <= low {
+        return from;
+    }
+    // Often no row begins with the key: then the end of its rows is where they would begin.
+    if past && !passes(table, low, inputs, first, second, third, past) {
+        return from;
+    }
     while low < high {
         let middle = low + (high - low) / 2;
         if passes(table, middle, inputs, first, second, third, past) {

@@ -1,0 +1,130 @@
+// Times evaluation against 002, which is compiled unchanged with the stand-ins of compare/ (bench/run says how). Both get the same 600
+// facts and the same plans, and must yield the same rows before anything is timed.
+#[path = "../target/bench/eval.rs"]
+mod eval;
+#[path = "../target/bench/plan.rs"]
+mod plan;
+
+#[path = "../compare/database.rs"]
+mod database;
+#[path = "../compare/datom.rs"]
+mod datom;
+#[path = "../compare/plan_cases.rs"]
+mod plan_cases;
+#[path = "../compare/random.rs"]
+mod random;
+#[path = "../compare/rust_plan.rs"]
+mod rust_plan;
+
+use database::{heap, store, tables, Nothing, View};
+use datom::Tid;
+use eval::Evaluator;
+use plan::Plan;
+use plan_cases::{case, numbers, Case};
+use random::Random;
+use rust_plan::rust_plan;
+use std::hint::black_box;
+use std::time::Instant;
+
+// A lent slice is a pointer and a length.
+#[link(name = "timed", kind = "static")]
+extern "C" {
+    fn timed_rows(
+        text: *const u8, text_length: usize, times: u64,
+        aevt: *const u64, aevt_length: usize, avet: *const u64, avet_length: usize, eavt: *const u64, eavt_length: usize,
+        rows: *mut u64, rows_length: usize,
+    ) -> usize;
+    fn timed_check(
+        aevt: *const u64, aevt_length: usize, avet: *const u64, avet_length: usize, eavt: *const u64, eavt_length: usize,
+    ) -> u64;
+}
+
+const FACTS: usize = 600;
+const ROUNDS: usize = 301;
+
+// About so long is a round of 002, in microseconds: long enough for the clock, and short beside what else the machine does.
+const ROUND: f64 = 1000.0;
+
+// The Rattle: checks, and then so many evaluations.
+fn ours(text: &str, times: u64, t: &[Vec<u64>; 3], rows: &mut [u64]) -> usize {
+    unsafe {
+        timed_rows(
+            text.as_ptr(), text.len(), times,
+            t[0].as_ptr(), t[0].len(), t[1].as_ptr(), t[1].len(), t[2].as_ptr(), t[2].len(),
+            rows.as_mut_ptr(), rows.len(),
+        )
+    }
+}
+
+fn check(t: &[Vec<u64>; 3]) -> u64 {
+    unsafe { timed_check(t[0].as_ptr(), t[0].len(), t[1].as_ptr(), t[1].len(), t[2].as_ptr(), t[2].len()) }
+}
+
+// 002: every row is taken, and nothing more is done with it.
+fn theirs(plan: &Plan, view: &View<Nothing, Nothing>) {
+    for row in Evaluator::new(plan, view) {
+        black_box(row);
+    }
+}
+
+// Microseconds.
+fn time<F: FnMut()>(mut f: F) -> f64 {
+    let start = Instant::now();
+    f();
+    start.elapsed().as_nanos() as f64 / 1000.0
+}
+
+fn median(mut of: Vec<f64>) -> f64 {
+    of.sort_by(|x, y| x.partial_cmp(y).unwrap());
+    of[of.len() / 2]
+}
+
+fn queries() -> Vec<(&'static str, Case)> {
+    let variables = |n: usize| vec![(false, 0); n];
+    let mut constant = variables(3);
+    constant.push((true, 7));
+    vec![
+        // (x, 5, y) (y, 7, z) (z, 9, x)
+        ("out-out aevt, in-out aevt, in-in eavt", case(vec![(0, 0, 0, 5, 1), (0, 1, 1, 7, 2), (2, 2, 2, 9, 0)], variables(3), vec![0, 2])),
+        // (x, 5, y) (x, 7, z) (w, 9, z)
+        ("out-out avet, in-out eavt, in-out avet", case(vec![(1, 0, 0, 5, 1), (2, 1, 0, 7, 2), (1, 1, 3, 9, 2)], variables(4), vec![0, 2])),
+        // (x, 5, 7) (x, 7, y) (y, 9, z)
+        ("in-out avet, in-out aevt, in-out eavt", case(vec![(1, 1, 0, 5, 3), (0, 1, 0, 7, 1), (2, 1, 1, 9, 2)], constant, vec![0, 1, 2])),
+    ]
+}
+
+fn main() {
+    let mut random = Random(20260105);
+    let mut facts: Vec<(u64, u64, u64)> = Vec::new();
+    while facts.len() < FACTS {
+        let fact = (random.below(40), [5, 7, 9][random.below(3) as usize], random.below(40));
+        if !facts.contains(&fact) {
+            facts.push(fact);
+        }
+    }
+    let view = View::new(&facts, Tid::min());
+    let t = tables(&facts);
+    assert_eq!(check(&t), 0);
+    for (name, case) in queries() {
+        let plan = rust_plan(&case);
+        let text = numbers(&case);
+        let want: Vec<u64> = Evaluator::new(&plan, &view).flat_map(|row| row.iter().map(|v| v.0).collect::<Vec<_>>()).collect();
+        let mut rows = vec![0; want.len()];
+        let count = ours(&text, 1, &t, &mut rows);
+        assert_eq!((count * case.select.len(), &rows), (want.len(), &want));
+        let once = median((0..ROUNDS).map(|_| time(|| theirs(&plan, &view))).collect());
+        let times = (ROUND / once) as u64 + 1;
+        let (mut old, mut new, mut ratios) = (Vec::new(), Vec::new(), Vec::new());
+        for _ in 0..ROUNDS {
+            let rust = time(|| for _ in 0..times { theirs(&plan, &view) }) / times as f64;
+            let checks = time(|| { black_box(ours(&text, 0, &t, &mut rows)); });
+            let rattle = (time(|| { black_box(ours(&text, times, &t, &mut rows)); }) - checks) / times as f64;
+            old.push(rust);
+            new.push(rattle);
+            ratios.push(rattle / rust);
+        }
+        println!("{}: {} rows, 002 {:.1} us, here {:.1} us, ratio {:.2}", name, count, median(old), median(new), median(ratios));
+    }
+    let checks = (0..ROUNDS).map(|_| time(|| { black_box(check(&t)); })).collect();
+    println!("the check of the tables: {:.1} us", median(checks));
+}
