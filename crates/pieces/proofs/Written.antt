@@ -61,3 +61,7 @@ written-then {p} {q} {l} {l₁} {l₂} {at} {at₁} {at₂} v w =
       buffer-is = out ∙ same ∙ sym (sets-append p q l at);
       within = v .within;
     }
+
+-- the buffer stays as long
+pub written-length : {p l l′ : List ℕ} {at at′ : ℕ} → Written p at l at′ l′ → length l′ ≡ length l
+written-length {p} {l} {l′} {at} w = ap length (w .buffer-is) ∙ length-sets l at p
