@@ -12,7 +12,8 @@ use Rattle.plan.specs.declared.Scan.{Scan}
 use Rattle.plan.specs.declared.SlotRecord.{SlotRecord}
 use Rattle.plan.specs.Plan.{variableSlot, zeroScan, zeroSlot}
 use Rattle.pieces.specs.Ascii.{ascii}
-use Rattle.plan_text.specs.Text.{constantLine, constantLines, scanLine, scanLines, joined, separator, slotText, selectsText}
+use Rattle.scan_text.specs.Line.{slotText, scanLine}
+use Rattle.plan_text.specs.Text.{constantLine, constantLines, scanLines, joined, separator, selectsText}
 
 -- constants, with one slot more behind them
 constants-more : (ss : List SlotRecord) (s : SlotRecord) (k : ℕ) → constantLines (ss ++ (s ∷ [])) k ≡ constantLines ss k ++ constantLine (k + length ss) (s .definition)

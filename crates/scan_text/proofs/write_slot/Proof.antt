@@ -1,9 +1,9 @@
 -- `write_slot` meets its contract, piece by piece.
 use borrow.Author.Needs.{needs}
 use Rattle.pieces.proofs.Written.{written-then, written-length}
-use Rattle.plan_text.specs.Text.{slotText}
-use Rattle.plan_text.proofs.write_slot.Statement.{statement}
-use Rattle.plan_text.proofs.write_slot.Tie as tie
+use Rattle.scan_text.specs.Line.{slotText}
+use Rattle.scan_text.proofs.write_slot.Statement.{statement}
+use Rattle.scan_text.proofs.write_slot.Tie as tie
 
 line : tie.Need-returns
 unfolding slotText

@@ -3,8 +3,8 @@ use mathlib.Core.Path.{sym, _∙_}
 use native.Mathlib.Omega.{arith}
 use borrow.Author.Needs.{needs}
 use Rattle.pieces.proofs.Written.{written-none}
-use Rattle.plan_text.proofs.write_name.Statement.{statement}
-use Rattle.plan_text.proofs.write_name.Tie as tie
+use Rattle.scan_text.proofs.write_name.Statement.{statement}
+use Rattle.scan_text.proofs.write_name.Tie as tie
 
 pub write-name-spec : {M : Type 1} → statement M
 write-name-spec =

@@ -1,10 +1,10 @@
--- `write_index` meets its contract, index by index.
+-- `write_second_label` meets its contract, index by index.
 use borrow.Author.Needs.{needs}
-use Rattle.plan_text.proofs.write_index.Statement.{statement}
-use Rattle.plan_text.proofs.write_index.Tie as tie
+use Rattle.scan_text.proofs.write_second_label.Statement.{statement}
+use Rattle.scan_text.proofs.write_second_label.Tie as tie
 
-pub write-index-spec : {M : Type 1} → statement M
-write-index-spec =
+pub write-second-label-spec : {M : Type 1} → statement M
+write-second-label-spec =
     tie.close
     (tie.spec
     (λ c. search needs)

@@ -1,9 +1,9 @@
 -- `write_out_out` meets its contract, piece by piece.
 use borrow.Author.Needs.{needs}
 use Rattle.pieces.proofs.Written.{written-then, written-length}
-use Rattle.plan_text.specs.Text.{flowLine}
-use Rattle.plan_text.proofs.write_out_out.Statement.{statement}
-use Rattle.plan_text.proofs.write_out_out.Tie as tie
+use Rattle.scan_text.specs.Line.{flowLine}
+use Rattle.scan_text.proofs.write_out_out.Statement.{statement}
+use Rattle.scan_text.proofs.write_out_out.Tie as tie
 
 line : tie.Need-returns
 unfolding flowLine

@@ -1,9 +1,9 @@
 -- `write_scan` meets its contract, flow by flow.
 use mathlib.Core.Path.{sym, _∙_}
 use borrow.Author.Needs.{needs}
-use Rattle.plan_text.specs.Text.{scanLine}
-use Rattle.plan_text.proofs.write_scan.Statement.{statement}
-use Rattle.plan_text.proofs.write_scan.Tie as tie
+use Rattle.scan_text.specs.Line.{scanLine}
+use Rattle.scan_text.proofs.write_scan.Statement.{statement}
+use Rattle.scan_text.proofs.write_scan.Tie as tie
 
 out-out : tie.Need-returns
 unfolding scanLine

@@ -1,7 +1,7 @@
 -- `write_first_label` meets its contract, index by index.
 use borrow.Author.Needs.{needs}
-use Rattle.plan_text.proofs.write_first_label.Statement.{statement}
-use Rattle.plan_text.proofs.write_first_label.Tie as tie
+use Rattle.scan_text.proofs.write_first_label.Statement.{statement}
+use Rattle.scan_text.proofs.write_first_label.Tie as tie
 
 pub write-first-label-spec : {M : Type 1} → statement M
 write-first-label-spec =
