@@ -21,6 +21,9 @@ ghost use lib.ListN.{take, getD};
 ghost use Rattle.plan_names.specs.Names.{nameStart, nameOf, constantAt, wrongEnd, endsFault, namesFault, selectNameFault, selectNameOf};
 ghost use Rattle.plan.specs.Plan.{isConstant, zeroSlot};
 
+// The first name starts here, each other at the end before it.
+const FIRST_START: usize = 0;
+
 // What stands against asking the name of the variable selected by the `index`-th select: the first refusal, or nothing.
 pub fn check_select_name(plan: Plan, names: &[u8], ends: &[usize], index: usize) -> Verdict
     ensures { λ r. ⌜ r ≡ selectNameFault plan (now (names .entry)) (now (ends .entry)) index ⌝ }
@@ -108,7 +111,7 @@ fn start_at(i_slot: usize, ends: &[usize]) -> usize
     ensures { λ r. ⌜ r ≡ nameStart (now (ends .entry)) «i_slot» ⌝ }
 {
     if i_slot == 0 {
-        return 0;
+        return FIRST_START;
     }
     end_at(i_slot - 1, ends)
 }

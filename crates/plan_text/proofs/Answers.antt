@@ -38,19 +38,17 @@ module _ (p : Plan) (names ends l : List ℕ) where
     same = ap (λ (k : List ℕ). k ++ l) (counted .buffer-is ∙ sets-past text [] 0 (omega arith))
 
     -- it is longer than the buffer
-    pub answer-short : (v : Verdict) → length (none ++ l) < n → v ≡ refused 31 0 → Answers p names ends l (record { verdict = v; length = 0 }) (none ++ l)
+    pub answer-short : (v : Verdict) → length l < n → v ≡ refused 31 0 → Answers p names ends l (record { verdict = v; length = 0 }) (none ++ l)
     unfolding textFault formattedOf bufferAfter
     answer-short v h e =
-        let more : length l < n = rw same at h in
         let long : length l < length text = omega (arith, counted .position-is) in
         (simp (fine, lt-ltb _ _ long, e), simp (fine, lt-ltb _ _ long) same)
 
     -- it fits, and is written
-    pub answer-fits : (at : ℕ) (l′ : List ℕ) → n ≤ length (none ++ l) → length l < largest → Written text 0 (none ++ l) at l′
+    pub answer-fits : (at : ℕ) (l′ : List ℕ) → n ≤ length l → length l < largest → Written text 0 (none ++ l) at l′
         → Answers p names ends l (record { verdict = Fine; length = n }) l′
     unfolding textFault formattedOf bufferAfter
     answer-fits at l′ h room w =
-        let few : n ≤ length l = rw same at h in
         let whole : n ≡ length text = omega (arith, counted .position-is) in
         let fits : length text ≤ length l = omega arith in
         let start : 0 + length text ≡ length text = omega arith in

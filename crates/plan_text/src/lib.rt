@@ -49,9 +49,10 @@ pub fn fmt(plan: Plan, names: &[u8], ends: &[usize], out: &mut [u8]) -> Formatte
             length: 0,
         };
     }
+    let room = out.len();
     // Written to no bytes, the text is only counted.
     let length = write_plan(plan, names, ends, &mut out[..0]);
-    if out.len() < length {
+    if room < length {
         let too_short = refuse(refusal::TEXT_TOO_SHORT, 0);
         return Formatted {
             verdict: too_short,
