@@ -1,5 +1,5 @@
 -- `write_decimal` meets its contract. The number falls at the call.
-use Prim.Native.Nat.{ℕ, _<_}
+use Prim.Native.Nat.{ℕ, _≤_, _<_}
 use mathlib.Core.Path.{_∙_}
 use native.Mathlib.Omega.{arith}
 use borrow.Author.Needs.{needs}
@@ -36,8 +36,8 @@ pub +write-decimal-spec : {M : Type 1} → statement M
     write-decimal.Post
     (λ c κs. search needs)
     (λ c. search needs)
-    (λ c. rw (decimal-one _ (c .before .before .before .before .if1 .taken)) (c .before .before .write-digit .ensures))
+    (λ c. let h : c .before .before .before .before .before .before .args .number < 10 = omega arith in rw (decimal-one _ h) (c .before .before .write-digit .ensures))
     (λ c κs. (omega arith, tt))
     (λ c κs. omega arith)
     (λ c. search needs)
-    (λ c. rw (decimal-more _ (c .before .before .before .before .before .before .before .before .if1 .left)) (written-then (c .before .before .before .before .before .before .write-decimal .ensures) (c .before .before .write-digit2 .ensures)))
+    (λ c. let h : 10 ≤ c .before .before .before .before .before .before .before .before .before .before .args .number = omega arith in rw (decimal-more _ h) (written-then (c .before .before .before .before .before .before .write-decimal .ensures) (c .before .before .write-digit2 .ensures)))

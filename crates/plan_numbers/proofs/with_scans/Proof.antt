@@ -2,8 +2,8 @@
 use Rattle.capacity.specs.Capacity.{maxScans}
 use borrow.Author.Needs.{needs}
 use Prim.Native.Nat.{_≤_, _-_}
-use Rattle.plans.proofs.with_scans.Statement.{statement}
-use Rattle.plans.proofs.with_scans.Tie as tie
+use Rattle.plan_numbers.proofs.with_scans.Statement.{statement}
+use Rattle.plan_numbers.proofs.with_scans.Tie as tie
 
 abbrev Inv-loop : tie.InvT-loop
 Inv-loop text count reading₀ i₀ reading i = i ≤ maxScans
