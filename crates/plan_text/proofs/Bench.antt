@@ -16,9 +16,9 @@ use Rattle.plan_text.specs.Text.{constantLine, constantLines, scanLines,
 abbrev example : Plan
 example = record {
   scans =
-    record { index = Aevt; flow = OutOut; entity = record { 0 = 0 }; attribute = record { 0 = 5 }; value = record { 0 = 1 } }
-    ∷ record { index = Aevt; flow = InIn; entity = record { 0 = 1 }; attribute = record { 0 = 9 }; value = record { 0 = 2 } }
-    ∷ [];
+      record { index = Aevt; flow = OutOut; entity = record { 0 = 0 }; attribute = record { 0 = 5 }; value = record { 0 = 1 } }
+      ∷ record { index = Aevt; flow = InIn; entity = record { 0 = 1 }; attribute = record { 0 = 9 }; value = record { 0 = 2 } }
+      ∷ [];
   «scan_count» = 2;
   slots = variableSlot ∷ variableSlot ∷ record { definition = Constant 7 } ∷ [];
   «slot_count» = 3;

@@ -2,6 +2,7 @@
 use Prim.Native.Nat.{ℕ}
 use mathlib.Core.Bool.{Bool, true, false}
 use mathlib.Core.List.{List, [], _++_}
+use lib.ListN.{length, take}
 use Rattle.plan.specs.declared.Scan.{Scan}
 use Rattle.plan.specs.declared.SlotRecord.{SlotRecord}
 use Rattle.plan.specs.declared.Index.{Index}
@@ -21,6 +22,10 @@ shownName false name = name
 -- how a slot prints, with the names lent: its name and its number
 unfoldable pub slotText : List SlotRecord → List ℕ → List ℕ → ℕ → List ℕ
 slotText slots names ends k = shownName (constantAt slots k) (nameOf names ends k) ++ ascii ":" ++ decimal k
+
+-- the same where the slots stand in an array that may hold more: there is an end for each slot
+abbrev pub slotTextIn : List SlotRecord → List ℕ → List ℕ → ℕ → List ℕ
+slotTextIn array names ends k = slotText (take (length ends) array) names ends k
 
 abbrev pub indexText : Index → List ℕ
 indexText Aevt = ascii " in aevt"

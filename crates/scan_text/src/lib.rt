@@ -19,7 +19,7 @@ ghost use lib.ListN.{length, take};
 ghost use Rattle.pieces.specs.Written.{Written};
 ghost use Rattle.plan.specs.declared.Flow.the-variants.{OutOut, InOut, InIn};
 ghost use Rattle.plan_names.specs.Names.{nameOf, constantAt};
-ghost use Rattle.scan_text.specs.Line.{shownName, slotText, indexText, firstLabel, secondLabel, flowLine, scanLine};
+ghost use Rattle.scan_text.specs.Line.{shownName, slotTextIn, indexText, firstLabel, secondLabel, flowLine, scanLine};
 
 // A scan's line.
 pub fn write_scan(
@@ -54,7 +54,7 @@ fn write_out_out(
     start: usize,
     out: &mut [u8],
 ) -> usize
-    ensures { λ r. ⌜ Written (flowLine OutOut index (slotText (take (length (now (ends .entry))) slots) (now (names .entry)) (now (ends .entry)) (first .0)) (slotText (take (length (now (ends .entry))) slots) (now (names .entry)) (now (ends .entry)) (second .0))) start (now (out .entry)) r (now (out .exit)) ⌝ }
+    ensures { λ r. ⌜ Written (flowLine OutOut index (slotTextIn slots (now (names .entry)) (now (ends .entry)) (first .0)) (slotTextIn slots (now (names .entry)) (now (ends .entry)) (second .0))) start (now (out .entry)) r (now (out .exit)) ⌝ }
 {
     let at = write(b"for ", start, out);
     let at = write_slot(first, slots, names, ends, at, out);
@@ -74,7 +74,7 @@ fn write_in_out(
     start: usize,
     out: &mut [u8],
 ) -> usize
-    ensures { λ r. ⌜ Written (flowLine InOut index (slotText (take (length (now (ends .entry))) slots) (now (names .entry)) (now (ends .entry)) (first .0)) (slotText (take (length (now (ends .entry))) slots) (now (names .entry)) (now (ends .entry)) (second .0))) start (now (out .entry)) r (now (out .exit)) ⌝ }
+    ensures { λ r. ⌜ Written (flowLine InOut index (slotTextIn slots (now (names .entry)) (now (ends .entry)) (first .0)) (slotTextIn slots (now (names .entry)) (now (ends .entry)) (second .0))) start (now (out .entry)) r (now (out .exit)) ⌝ }
 {
     let at = write(b"for ", start, out);
     let at = write_slot(second, slots, names, ends, at, out);
@@ -95,7 +95,7 @@ fn write_in_in(
     start: usize,
     out: &mut [u8],
 ) -> usize
-    ensures { λ r. ⌜ Written (flowLine InIn index (slotText (take (length (now (ends .entry))) slots) (now (names .entry)) (now (ends .entry)) (first .0)) (slotText (take (length (now (ends .entry))) slots) (now (names .entry)) (now (ends .entry)) (second .0))) start (now (out .entry)) r (now (out .exit)) ⌝ }
+    ensures { λ r. ⌜ Written (flowLine InIn index (slotTextIn slots (now (names .entry)) (now (ends .entry)) (first .0)) (slotTextIn slots (now (names .entry)) (now (ends .entry)) (second .0))) start (now (out .entry)) r (now (out .exit)) ⌝ }
 {
     let at = write(b"for _", start, out);
     let at = write_index(index, at, out);
@@ -147,7 +147,7 @@ pub fn write_slot(
     start: usize,
     out: &mut [u8],
 ) -> usize
-    ensures { λ r. ⌜ Written (slotText (take (length (now (ends .entry))) slots) (now (names .entry)) (now (ends .entry)) (slot .0)) start (now (out .entry)) r (now (out .exit)) ⌝ }
+    ensures { λ r. ⌜ Written (slotTextIn slots (now (names .entry)) (now (ends .entry)) (slot .0)) start (now (out .entry)) r (now (out .exit)) ⌝ }
 {
     let at = write_name(slot, slots, names, ends, start, out);
     let at = write(b":", at, out);
