@@ -1,77 +1,15 @@
 // Writes cases for crates/plans, or the answers to them: plans of every kind, and what 001 makes of them (compare/run says how it
-// is built, with a stand-in for `datom`). The check is read off document 01's table here, independently of the Rattle;
+// is built, with a stand-in for `datom`). The check is read off document 01's table (compare/cases.rs), independently of the Rattle;
 // the cost is 001's own wherever it fits a u64 and 001 does not panic, and is summed in 128 bits to know where that is.
 #[path = "../target/compare/plan.rs"]
 mod plan;
 
+mod cases;
 mod datom;
 mod random;
 
-use datom::{Aid, Value};
-use plan::{Flow, Index, Plan, Scan, Slot, SlotDefinition};
+use cases::{case, check, damaged, e, in_order, numbers, out_out, rust_plan, sound, text, Case, Verdict, SCANS, SELECTS, SLOTS};
 use random::Random;
-
-const SCANS: usize = 48;
-const SLOTS: usize = 96;
-const SELECTS: usize = 32;
-
-// A plan as the Rattle has it: what is given of its arrays, and counts that may claim anything.
-#[derive(Clone)]
-struct Case {
-    scan_count: u64,
-    slot_count: u64,
-    select_count: u64,
-    scans: Vec<(usize, usize, u16, u64, u16)>,
-    slots: Vec<(bool, u64)>,
-    select: Vec<u16>,
-}
-
-type Verdict = Option<(u64, u64)>;
-
-fn in_order(scan: &(usize, usize, u16, u64, u16)) -> [usize; 2] {
-    let (index, _, entity, _, value) = *scan;
-    if index == 1 { [value as usize, entity as usize] } else { [entity as usize, value as usize] }
-}
-
-// 01's table, plan check: 20, 13, then scan by scan (21; 22, then 23 or 24 for each slot), then 25, 26.
-fn check(case: &Case) -> Verdict {
-    if case.slot_count > SLOTS as u64 || case.scan_count > SCANS as u64 || case.select_count > SELECTS as u64 {
-        return Some((20, 0));
-    }
-    if case.select_count == 0 {
-        return Some((13, 0));
-    }
-    let mut set: Vec<bool> = case.slots.iter().map(|s| s.0).collect();
-    for (i, scan) in case.scans.iter().enumerate() {
-        if scan.1 == 0 && scan.0 == 2 {
-            return Some((21, i as u64));
-        }
-        let writes = [scan.1 == 0, scan.1 != 2];
-        for (slot, &write) in in_order(scan).iter().zip(writes.iter()) {
-            if *slot >= set.len() {
-                return Some((22, i as u64));
-            }
-            if write && set[*slot] {
-                return Some((23, i as u64));
-            }
-            if !write && !set[*slot] {
-                return Some((24, i as u64));
-            }
-            set[*slot] = true;
-        }
-    }
-    for (i, is_set) in set.iter().enumerate() {
-        if !is_set {
-            return Some((25, i as u64));
-        }
-    }
-    for (i, slot) in case.select.iter().enumerate() {
-        if *slot as usize >= set.len() {
-            return Some((26, i as u64));
-        }
-    }
-    None
-}
 
 // 20, then 21, then 27 at the scan at which, from the last, the cost first passes 2^64 - 1.
 fn cost_fault(case: &Case) -> Verdict {
@@ -99,34 +37,6 @@ fn cost_fault(case: &Case) -> Verdict {
     None
 }
 
-fn rust_plan(case: &Case) -> Plan {
-    Plan {
-        scans: case
-            .scans
-            .iter()
-            .map(|s| Scan {
-                index: [Index::Aevt, Index::Avet, Index::Eavt][s.0].clone(),
-                flow: [Flow::OutOut, Flow::InOut, Flow::InIn][s.1].clone(),
-                entity: Slot(s.2),
-                attribute: Aid(s.3),
-                value: Slot(s.4),
-            })
-            .collect(),
-        slots: case
-            .slots
-            .iter()
-            .map(|s| {
-                if s.0 {
-                    SlotDefinition::Constant { value: Value(s.1) }
-                } else {
-                    SlotDefinition::Variable { name: String::new() }
-                }
-            })
-            .collect(),
-        select: case.select.iter().map(|s| Slot(*s)).collect(),
-    }
-}
-
 // 001's check tests a scan's slots against the number of scans: it is held to 01's where no scan names a slot between the two.
 fn agrees_with_001(case: &Case, verdict: Verdict) {
     let slip = case.scans.iter().any(|s| in_order(s).iter().any(|k| (*k < case.slots.len()) != (*k < case.scans.len())));
@@ -137,60 +47,19 @@ fn agrees_with_001(case: &Case, verdict: Verdict) {
     if slip || asks_what_001_does_not {
         return;
     }
-    let plan = rust_plan(case);
+    let plan = rust_plan(case, &[]);
     let passes = std::panic::catch_unwind(std::panic::AssertUnwindSafe(|| plan.check_invariants())).is_ok();
     assert_eq!(passes, verdict.is_none(), "001 and 01 part");
-}
-
-fn text(verdict: Verdict) -> String {
-    match verdict {
-        Some((number, place)) => format!("refused {} at {}", number, place),
-        None => "fine".to_string(),
-    }
 }
 
 fn answer(case: &Case) -> String {
     let verdict = check(case);
     agrees_with_001(case, verdict);
     let cost = match cost_fault(case) {
-        None => rust_plan(case).cost().to_string(),
+        None => rust_plan(case, &[]).cost().to_string(),
         fault => text(fault),
     };
     format!("check {}, cost {}", text(verdict), cost)
-}
-
-fn numbers(case: &Case) -> String {
-    let mut out = vec![case.scan_count, case.slot_count, case.select_count];
-    out.extend([case.scans.len() as u64, case.slots.len() as u64, case.select.len() as u64].iter());
-    for s in &case.scans {
-        out.extend([s.0 as u64, s.1 as u64, s.2 as u64, s.3, s.4 as u64].iter());
-    }
-    for s in &case.slots {
-        out.extend([s.0 as u64, s.1].iter());
-    }
-    out.extend(case.select.iter().map(|s| *s as u64));
-    out.iter().map(|n| n.to_string()).collect::<Vec<_>>().join(" ")
-}
-
-fn case(scans: Vec<(usize, usize, u16, u64, u16)>, slots: Vec<(bool, u64)>, select: Vec<u16>) -> Case {
-    Case {
-        scan_count: scans.len() as u64,
-        slot_count: slots.len() as u64,
-        select_count: select.len() as u64,
-        scans: scans,
-        slots: slots,
-        select: select,
-    }
-}
-
-// 01's E with the given indexes.
-fn e(first: usize, second: usize) -> Case {
-    case(vec![(first, 0, 0, 5, 1), (second, 2, 1, 9, 2)], vec![(false, 0), (false, 0), (true, 7)], vec![1])
-}
-
-// n out-out aevt scans on one attribute, each on two slots of its own.
-fn out_out(n: usize) -> Case {
-    case((0..n as u16).map(|i| (0, 0, 2 * i, 5, 2 * i + 1)).collect(), vec![(false, 0); 2 * n], vec![0])
 }
 
 // Scans from letters: an index (a, v, e), in capitals for a key not used before; a flow (o, i, t: out-out, in-out, in-in).
@@ -218,76 +87,6 @@ const COSTS: [&'static str; 3] = [
     "EtEtAtetaoetetetetAoEtatViEtViAtviEtviAtetvietViatvietVoetviAtAoatet",
     "EtEtAtetetaoetetetetAoEtatViEtViAtviEtviAtetvietViatvietVoetviAtAoatet",
 ];
-
-// A sound plan of a few scans: each slot is read once set and written once.
-fn sound(random: &mut Random) -> Case {
-    let constants = 1 + random.below(2) as usize;
-    let mut slots: Vec<(bool, u64)> = (0..constants).map(|_| (true, random.below(9))).collect();
-    let mut scans = Vec::new();
-    for _ in 0..random.below(6) {
-        let attribute = random.below(3);
-        let read = |random: &mut Random, n: usize| random.below(n as u64) as u16;
-        let n = slots.len();
-        let (index, flow, first, second) = match random.below(3) {
-            0 => {
-                slots.extend([(false, 0); 2].iter());
-                (random.below(2) as usize, 0, n as u16, n as u16 + 1)
-            }
-            1 => {
-                slots.push((false, 0));
-                (random.below(3) as usize, 1, read(random, n), n as u16)
-            }
-            _ => (random.below(3) as usize, 2, read(random, n), read(random, n)),
-        };
-        scans.push(if index == 1 { (index, flow, second, attribute, first) } else { (index, flow, first, attribute, second) });
-    }
-    let select = (0..1 + random.below(3)).map(|_| random.below(slots.len() as u64) as u16).collect();
-    case(scans, slots, select)
-}
-
-// One thing of it changed.
-fn damaged(random: &mut Random) -> Case {
-    let mut c = sound(random);
-    let claimed = [0, 31, 32, 33, 47, 48, 49, 96, 97, u64::max_value()];
-    match random.below(9) {
-        0 => c.select_count = claimed[random.below(3) as usize],
-        1 => c.slot_count = claimed[6 + random.below(4) as usize],
-        2 => c.select_count = claimed[3 + random.below(7) as usize],
-        3 if !c.slots.is_empty() => {
-            let i = random.below(c.slots.len() as u64) as usize;
-            c.slots[i].0 = !c.slots[i].0;
-        }
-        4 => {
-            let i = random.below(c.select.len() as u64) as usize;
-            c.select[i] = [c.slots.len() as u16, 65535][random.below(2) as usize];
-        }
-        5 => {
-            c.slots.push((false, 0));
-            c.slot_count += 1;
-        }
-        n if !c.scans.is_empty() => {
-            let i = random.below(c.scans.len() as u64) as usize;
-            match n {
-                6 => c.scans[i].1 = random.below(3) as usize,
-                7 => c.scans[i].0 = random.below(3) as usize,
-                _ => c.scans[i].2 = [c.slots.len() as u16, 65535, 0][random.below(3) as usize],
-            }
-        }
-        _ => c.select.clear(),
-    }
-    // What a claimed count leaves out or adds is then what the arrays hold: nothing, or zeros.
-    for (claimed, most) in vec![(c.select_count, SELECTS), (c.slot_count, SLOTS)] {
-        if claimed as usize <= most {
-            if most == SELECTS {
-                c.select.resize(claimed as usize, 0);
-            } else {
-                c.slots.resize(claimed as usize, (false, 0));
-            }
-        }
-    }
-    c.select_count = if c.select_count as usize <= SELECTS { c.select.len() as u64 } else { c.select_count };
-    c
-}
 
 fn cases() -> Vec<Case> {
     let mut all = vec![e(0, 0), e(1, 0), e(0, 1), e(1, 1), e(0, 2), e(1, 2)];
