@@ -6,6 +6,7 @@ use libc::STDIN_FILENO;
 use libc::STDOUT_FILENO;
 use plan::Plan;
 use refusal::Verdict;
+ghost use mathlib.Core.Path.{_≡_};
 ghost use Prim.Native.Nat.{_≤_};
 ghost use lib.ListN.{length};
 
@@ -74,9 +75,16 @@ fn show_text(plan: Plan, names: &[u8], ends: &[usize], out: &mut [u8]) {
     put_bytes(out);
 }
 
+// A buffer that shows which bytes stay.
+fn blank() -> [u8; 4096]
+    ensures { λ r. ⌜ 4096 ≡ length r ⌝ }
+{
+    [126; 4096]
+}
+
 // The same to a buffer of so many bytes.
 fn show_text_in(plan: Plan, names: &[u8], ends: &[usize], room: u64) {
-    let mut buffer = [126u8; 4096];
+    let mut buffer = blank();
     if room <= 4096 {
         show_text(plan, names, ends, &mut buffer[..room as usize]);
     }
@@ -144,7 +152,13 @@ fn show_case(text: &[u8], start: usize) -> usize {
     let slots = read_ends(text, bytes.next, &mut ends);
     let byte_count = bytes.count;
     let end_count = slots.count;
-    show_plan(text, slots.next, plan, &names[..byte_count], &ends[..end_count])
+    show_plan(
+        text,
+        slots.next,
+        plan,
+        &names[..byte_count],
+        &ends[..end_count],
+    )
 }
 
 // All cases of a text.
