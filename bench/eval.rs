@@ -106,7 +106,7 @@ fn main() {
     let t = tables(&facts);
     assert_eq!(check(&t), 0);
     for (name, case) in queries() {
-        let plan = rust_plan(&case);
+        let plan = rust_plan(&case, &[]);
         let text = numbers(&case);
         let want: Vec<u64> = Evaluator::new(&plan, &view).flat_map(|row| row.iter().map(|v| v.0).collect::<Vec<_>>()).collect();
         let mut rows = vec![0; want.len()];

@@ -5,8 +5,15 @@ pub struct Aid(pub u64);
 #[derive(Copy, Clone, Debug, Eq, Ord, PartialEq, PartialOrd)]
 pub struct Eid(pub u64);
 
-#[derive(Copy, Clone, Debug, Eq, Ord, PartialEq, PartialOrd)]
+#[derive(Copy, Clone, Eq, Ord, PartialEq, PartialOrd)]
 pub struct Value(pub u64);
+
+// Constants print in decimal, as document 01 has it.
+impl ::std::fmt::Debug for Value {
+    fn fmt(&self, f: &mut ::std::fmt::Formatter) -> ::std::fmt::Result {
+        write!(f, "{}", self.0)
+    }
+}
 
 // A transaction; its lowest bit is kept for the operation.
 #[derive(Copy, Clone)]

@@ -1,5 +1,7 @@
 // Plans for drawn and made cases, as the numbers that the Rattle reads, and the plan check, read off document 01's table independently
 // of the Rattle.
+use random::Random;
+
 pub const SCANS: usize = 48;
 pub const SLOTS: usize = 96;
 pub const SELECTS: usize = 32;
@@ -97,4 +99,79 @@ pub fn case(scans: Vec<(usize, usize, u16, u64, u16)>, slots: Vec<(bool, u64)>, 
 // 01's E with the given indexes.
 pub fn e(first: usize, second: usize) -> Case {
     case(vec![(first, 0, 0, 5, 1), (second, 2, 1, 9, 2)], vec![(false, 0), (false, 0), (true, 7)], vec![1])
+}
+
+// n out-out aevt scans on one attribute, each on two slots of its own.
+pub fn out_out(n: usize) -> Case {
+    case((0..n as u16).map(|i| (0, 0, 2 * i, 5, 2 * i + 1)).collect(), vec![(false, 0); 2 * n], vec![0])
+}
+
+// A sound plan of a few scans: each slot is read once set and written once.
+pub fn sound(random: &mut Random) -> Case {
+    let constants = 1 + random.below(2) as usize;
+    let mut slots: Vec<(bool, u64)> = (0..constants).map(|_| (true, random.below(9))).collect();
+    let mut scans = Vec::new();
+    for _ in 0..random.below(6) {
+        let attribute = random.below(3);
+        let read = |random: &mut Random, n: usize| random.below(n as u64) as u16;
+        let n = slots.len();
+        let (index, flow, first, second) = match random.below(3) {
+            0 => {
+                slots.extend([(false, 0); 2].iter());
+                (random.below(2) as usize, 0, n as u16, n as u16 + 1)
+            }
+            1 => {
+                slots.push((false, 0));
+                (random.below(3) as usize, 1, read(random, n), n as u16)
+            }
+            _ => (random.below(3) as usize, 2, read(random, n), read(random, n)),
+        };
+        scans.push(if index == 1 { (index, flow, second, attribute, first) } else { (index, flow, first, attribute, second) });
+    }
+    let select = (0..1 + random.below(3)).map(|_| random.below(slots.len() as u64) as u16).collect();
+    case(scans, slots, select)
+}
+
+// One thing of it changed.
+pub fn damaged(random: &mut Random) -> Case {
+    let mut c = sound(random);
+    let claimed = [0, 31, 32, 33, 47, 48, 49, 96, 97, u64::max_value()];
+    match random.below(9) {
+        0 => c.select_count = claimed[random.below(3) as usize],
+        1 => c.slot_count = claimed[6 + random.below(4) as usize],
+        2 => c.select_count = claimed[3 + random.below(7) as usize],
+        3 if !c.slots.is_empty() => {
+            let i = random.below(c.slots.len() as u64) as usize;
+            c.slots[i].0 = !c.slots[i].0;
+        }
+        4 => {
+            let i = random.below(c.select.len() as u64) as usize;
+            c.select[i] = [c.slots.len() as u16, 65535][random.below(2) as usize];
+        }
+        5 => {
+            c.slots.push((false, 0));
+            c.slot_count += 1;
+        }
+        n if !c.scans.is_empty() => {
+            let i = random.below(c.scans.len() as u64) as usize;
+            match n {
+                6 => c.scans[i].1 = random.below(3) as usize,
+                7 => c.scans[i].0 = random.below(3) as usize,
+                _ => c.scans[i].2 = [c.slots.len() as u16, 65535, 0][random.below(3) as usize],
+            }
+        }
+        _ => c.select.clear(),
+    }
+    // What a claimed count leaves out or adds is then what the arrays hold: nothing, or zeros.
+    for (claimed, most) in vec![(c.select_count, SELECTS), (c.slot_count, SLOTS)] {
+        if claimed as usize <= most {
+            if most == SELECTS {
+                c.select.resize(claimed as usize, 0);
+            } else {
+                c.slots.resize(claimed as usize, (false, 0));
+            }
+        }
+    }
+    c.select_count = if c.select_count as usize <= SELECTS { c.select.len() as u64 } else { c.select_count };
+    c
 }

@@ -9,7 +9,7 @@ mod datom;
 mod random;
 mod rust_plan;
 
-use plan_cases::{case, check, e, in_order, numbers, text, Case, Verdict, SCANS, SELECTS, SLOTS};
+use plan_cases::{case, check, damaged, e, in_order, numbers, out_out, sound, text, Case, Verdict, SCANS, SELECTS, SLOTS};
 use random::Random;
 use rust_plan::rust_plan;
 
@@ -49,7 +49,7 @@ fn agrees_with_001(case: &Case, verdict: Verdict) {
     if slip || asks_what_001_does_not {
         return;
     }
-    let plan = rust_plan(case);
+    let plan = rust_plan(case, &[]);
     let passes = std::panic::catch_unwind(std::panic::AssertUnwindSafe(|| plan.check_invariants())).is_ok();
     assert_eq!(passes, verdict.is_none(), "001 and 01 part");
 }
@@ -58,15 +58,10 @@ fn answer(case: &Case) -> String {
     let verdict = check(case);
     agrees_with_001(case, verdict);
     let cost = match cost_fault(case) {
-        None => rust_plan(case).cost().to_string(),
+        None => rust_plan(case, &[]).cost().to_string(),
         fault => text(fault),
     };
     format!("check {}, cost {}", text(verdict), cost)
-}
-
-// n out-out aevt scans on one attribute, each on two slots of its own.
-fn out_out(n: usize) -> Case {
-    case((0..n as u16).map(|i| (0, 0, 2 * i, 5, 2 * i + 1)).collect(), vec![(false, 0); 2 * n], vec![0])
 }
 
 // Scans from letters: an index (a, v, e), in capitals for a key not used before; a flow (o, i, t: out-out, in-out, in-in).
@@ -94,76 +89,6 @@ const COSTS: [&'static str; 3] = [
     "EtEtAtetaoetetetetAoEtatViEtViAtviEtviAtetvietViatvietVoetviAtAoatet",
     "EtEtAtetetaoetetetetAoEtatViEtViAtviEtviAtetvietViatvietVoetviAtAoatet",
 ];
-
-// A sound plan of a few scans: each slot is read once set and written once.
-fn sound(random: &mut Random) -> Case {
-    let constants = 1 + random.below(2) as usize;
-    let mut slots: Vec<(bool, u64)> = (0..constants).map(|_| (true, random.below(9))).collect();
-    let mut scans = Vec::new();
-    for _ in 0..random.below(6) {
-        let attribute = random.below(3);
-        let read = |random: &mut Random, n: usize| random.below(n as u64) as u16;
-        let n = slots.len();
-        let (index, flow, first, second) = match random.below(3) {
-            0 => {
-                slots.extend([(false, 0); 2].iter());
-                (random.below(2) as usize, 0, n as u16, n as u16 + 1)
-            }
-            1 => {
-                slots.push((false, 0));
-                (random.below(3) as usize, 1, read(random, n), n as u16)
-            }
-            _ => (random.below(3) as usize, 2, read(random, n), read(random, n)),
-        };
-        scans.push(if index == 1 { (index, flow, second, attribute, first) } else { (index, flow, first, attribute, second) });
-    }
-    let select = (0..1 + random.below(3)).map(|_| random.below(slots.len() as u64) as u16).collect();
-    case(scans, slots, select)
-}
-
-// One thing of it changed.
-fn damaged(random: &mut Random) -> Case {
-    let mut c = sound(random);
-    let claimed = [0, 31, 32, 33, 47, 48, 49, 96, 97, u64::max_value()];
-    match random.below(9) {
-        0 => c.select_count = claimed[random.below(3) as usize],
-        1 => c.slot_count = claimed[6 + random.below(4) as usize],
-        2 => c.select_count = claimed[3 + random.below(7) as usize],
-        3 if !c.slots.is_empty() => {
-            let i = random.below(c.slots.len() as u64) as usize;
-            c.slots[i].0 = !c.slots[i].0;
-        }
-        4 => {
-            let i = random.below(c.select.len() as u64) as usize;
-            c.select[i] = [c.slots.len() as u16, 65535][random.below(2) as usize];
-        }
-        5 => {
-            c.slots.push((false, 0));
-            c.slot_count += 1;
-        }
-        n if !c.scans.is_empty() => {
-            let i = random.below(c.scans.len() as u64) as usize;
-            match n {
-                6 => c.scans[i].1 = random.below(3) as usize,
-                7 => c.scans[i].0 = random.below(3) as usize,
-                _ => c.scans[i].2 = [c.slots.len() as u16, 65535, 0][random.below(3) as usize],
-            }
-        }
-        _ => c.select.clear(),
-    }
-    // What a claimed count leaves out or adds is then what the arrays hold: nothing, or zeros.
-    for (claimed, most) in vec![(c.select_count, SELECTS), (c.slot_count, SLOTS)] {
-        if claimed as usize <= most {
-            if most == SELECTS {
-                c.select.resize(claimed as usize, 0);
-            } else {
-                c.slots.resize(claimed as usize, (false, 0));
-            }
-        }
-    }
-    c.select_count = if c.select_count as usize <= SELECTS { c.select.len() as u64 } else { c.select_count };
-    c
-}
 
 fn cases() -> Vec<Case> {
     let mut all = vec![e(0, 0), e(1, 0), e(0, 1), e(1, 1), e(0, 2), e(1, 2)];

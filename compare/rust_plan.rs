@@ -1,9 +1,9 @@
-// A case's plan as 001 has it.
+// A case's plan as 001 has it, with the names of its slots.
 use datom::{Aid, Value};
 use plan::{Flow, Index, Plan, Scan, Slot, SlotDefinition};
 use plan_cases::Case;
 
-pub fn rust_plan(case: &Case) -> Plan {
+pub fn rust_plan(case: &Case, names: &[String]) -> Plan {
     Plan {
         scans: case
             .scans
@@ -19,11 +19,12 @@ pub fn rust_plan(case: &Case) -> Plan {
         slots: case
             .slots
             .iter()
-            .map(|s| {
+            .enumerate()
+            .map(|(i, s)| {
                 if s.0 {
                     SlotDefinition::Constant { value: Value(s.1) }
                 } else {
-                    SlotDefinition::Variable { name: String::new() }
+                    SlotDefinition::Variable { name: names.get(i).cloned().unwrap_or_default() }
                 }
             })
             .collect(),

@@ -1,0 +1,4 @@
+pub mod Written
+pub mod Decimal
+pub mod Digits
+pub mod OneAnswer

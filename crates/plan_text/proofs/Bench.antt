@@ -1,0 +1,32 @@
+-- 01's example, whole, as the definition computes it.
+use mathlib.Core.Path.{_≡_, refl}
+use mathlib.Core.List.{[], _∷_}
+use Rattle.plan.specs.declared.SlotDefinition.the-variants.{Constant}
+use Rattle.plan.specs.declared.Plan.{Plan}
+use Rattle.plan.specs.declared.Index.the-variants.{Aevt}
+use Rattle.plan.specs.declared.Flow.the-variants.{OutOut, InIn}
+use Rattle.plan.specs.Plan.{variableSlot}
+use Rattle.pieces.specs.Ascii.{ascii}
+use Rattle.pieces.specs.Decimal.{digitsWithin, decimal}
+use Rattle.plan_names.specs.Names.{nameOf}
+use Rattle.scan_text.specs.Line.{slotText, flowLine, scanLine}
+use Rattle.plan_text.specs.Text.{constantLine, constantLines, scanLines, joined, selectsText, textOf}
+
+-- E's plan
+abbrev example : Plan
+example = record {
+  scans =
+      record { index = Aevt; flow = OutOut; entity = record { 0 = 0 }; attribute = record { 0 = 5 }; value = record { 0 = 1 } }
+      ∷ record { index = Aevt; flow = InIn; entity = record { 0 = 1 }; attribute = record { 0 = 9 }; value = record { 0 = 2 } }
+      ∷ [];
+  «scan_count» = 2;
+  slots = variableSlot ∷ variableSlot ∷ record { definition = Constant 7 } ∷ [];
+  «slot_count» = 3;
+  select = record { 0 = 1 } ∷ [];
+  «select_count» = 1;
+}
+
+pub text-of-example : textOf example (ascii "machinevalve") (7 ∷ 12 ∷ 12 ∷ [])
+    ≡ ascii "let :2 = 7\nfor machine:0, valve:1 in aevt\nfor _ in aevt (entity=valve:1, value=:2)\nyield valve:1"
+unfolding digitsWithin decimal nameOf slotText flowLine scanLine constantLine constantLines scanLines joined selectsText textOf
+text-of-example = refl

@@ -1,0 +1,5 @@
+pub mod Lines
+pub mod Answers
+pub mod Alike
+pub mod Bench
+pub mod OneAnswer

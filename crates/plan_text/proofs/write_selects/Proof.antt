@@ -1,0 +1,47 @@
+-- `write_selects` meets its contract: before turn i the first i selects are written, joined.
+use mathlib.Core.Path.{_≡_}
+use Prim.Native.Nat.{_≤_, _-_}
+use native.Mathlib.Omega.{arith}
+use borrow.Author.Needs.{needs}
+use lib.ListN.{length, take}
+use Rattle.capacity.specs.Capacity.{maxSelects}
+use Rattle.pieces.specs.Written.{Written}
+use Rattle.pieces.proofs.Written.{written-none, written-then, written-length}
+use Rattle.plan_text.specs.Text.{joined, selectsText}
+use Rattle.plan_text.proofs.Lines.{selects-next}
+use Rattle.plan_text.proofs.write_selects.Statement.{statement}
+use Rattle.plan_text.proofs.write_selects.Tie as tie
+
+abbrev Inv : tie.InvT-loop
+Inv n slots names ends start out₀ select at₀ i₀ out at i = (i ≤ n) × Written (selectsText (take (length ends) slots) names ends (take i select)) start out₀ at out
+
+abbrev μ : tie.MeasureT-loop
+μ n slots names ends start out₀ select at₀ i₀ out at i = n - i
+
+none : tie.Need-loop-holds Inv μ
+unfolding selectsText joined
+none c = (omega arith, written-none (omega arith) (omega arith))
+
+again : tie.Need-loop-again Inv μ
+again c =
+    let a = c .before .before .before .before .before .before .before .before .before .before .before .before .before .before .args in
+    let i = c .before .before .before .before .before .before .before .before .before .before .loop .i in
+    let h : length (a .t1) ≡ maxSelects = search needs in
+    (omega arith, rw (selects-next _ _ _ (a .t1) i (omega arith)) (written-then (written-then (c .before .before .before .before .before .before .before .before .before .before .loop .inv .1) (c .before .before .before .before .before .before .write-separator .ensures)) (c .before .before .write-slot .ensures)))
+
+pub write-selects-spec : {M : Type 1} → statement M
+write-selects-spec =
+    tie.close
+    (tie.spec
+    Inv
+    μ
+    none
+    (λ c. search needs)
+    (λ c. search needs)
+    (λ c κs. search needs)
+    (λ c κs. search needs)
+    (λ c. search needs)
+    (λ c. search needs)
+    again
+    (λ c. written-length (c .before .loop .inv .1))
+    (λ c. let e : c .before .loop .i ≡ c .before .before .before .before .before .args .select-count = omega arith in rw (← e) (c .before .loop .inv .1)))
