@@ -22,7 +22,7 @@ abbrev pub planAt : Plan → ℕ → Plan
 planAt p t = withScans p (getD (combinations (scansOf p)) t [])
 
 -- none of them is out-out over eavt
-same-flows : {ss ts : List Scan} → SameScans ss ts → (i : ℕ) → outOutFault ts i ≡ Fine
+pub same-flows : {ss ts : List Scan} → SameScans ss ts → (i : ℕ) → outOutFault ts i ≡ Fine
 unfolding outOutFault
 same-flows none i = refl
 same-flows (more a b) i = simp (a .not-out-out-eavt) (same-flows b (i + 1))

@@ -1,7 +1,8 @@
 -- Every plan listed passes the check where one does: over each index of its cycle a scan does the same with its entity and value.
-use mathlib.Core.Path.{_≡_, refl, sym, _∙_}
+use mathlib.Core.Path.{_≡_, refl, sym, _∙_, subst}
+use mathlib.Core.Logic.{⊎-elim}
 use Prim.Native.Nat.{ℕ, zero, suc, _≤_, _<_}
-use mathlib.Core.List.{List, [], _∷_, _++_, map}
+use mathlib.Core.List.{List, [], _∷_, _++_, map, List·Memᴰ, List·Memᴰ·not-nil, List·Memᴰ·cases-cons}
 use mathlib.Core.Bool.{false}
 use native.Mathlib.Nat.{not-suc-le-zero, le-of-suc-le-suc}
 use lib.ListN.{length, getD}
@@ -35,6 +36,10 @@ each-at : {A : Type 0} {P : A → Type 0} {xs : List A} → Each P xs → (d : A
 each-at nil d t h = absurd (not-suc-le-zero h)
 each-at (one p ps) d zero h = p
 each-at (one p ps) d (suc t) h = each-at ps d t (le-of-suc-le-suc h)
+
+each-in : {A : Type 0} {P : A → Type 0} {xs : List A} → Each P xs → {x : A} → List·Memᴰ x xs → P x
+each-in nil m = absurd (List·Memᴰ·not-nil m)
+each-in {P = P} (one p ps) m = ⊎-elim (λ e. subst P (sym e) p) (each-in ps) (List·Memᴰ·cases-cons m)
 
 -- a scan and those of its cycle
 same-over : (s : Scan) (x : Index) → entityValueFlow (s .flow) (s .index) ≡ entityValueFlow (s .flow) x → outOutEavt (s .flow) x ≡ false → SameAccesses s (over s x)
@@ -71,6 +76,9 @@ same-combinations (s ∷ ss) =
 -- each list of scans listed
 pub same-accesses : (ss : List Scan) (t : ℕ) → t < length (combinations ss) → SameScans ss (getD (combinations ss) t [])
 same-accesses ss = each-at (same-combinations ss) []
+
+pub same-listed : (ss l : List Scan) → List·Memᴰ l (combinations ss) → SameScans ss l
+same-listed ss l = each-in (same-combinations ss)
 
 -- a plan with such scans, of the same slots and selects
 module _ (p : Plan) (l : List Scan) (fits : p .«scan_count» ≤ length (p .scans)) (b : SameScans (scansOf p) l) where

@@ -110,7 +110,7 @@ same-length none = refl
 same-length (more a b) = ap suc (same-length b)
 
 -- the same slots are written, and so the same are set
-same-written : {ss ts : List Scan} → SameScans ss ts → (k : ℕ) → written ss k ≡ written ts k
+pub same-written : {ss ts : List Scan} → SameScans ss ts → (k : ℕ) → written ss k ≡ written ts k
 unfolding written
 same-written none k = refl
 same-written (more a b) k = rw (same-writes a k, same-written b k)

@@ -29,7 +29,7 @@ use Rattle.planned.proofs.Initial.{scans-initial}
 use Rattle.planned.proofs.Promised.{planned-scans, plan-promised}
 
 -- the verdict is that of 10 to 16
-either-verdict : (v : Verdict) (p : Plan) → unless {A = Planned} v (λ w. record { verdict = w; plan = emptyPlan }) (record { verdict = Fine; plan = p }) .verdict ≡ v
+pub either-verdict : (v : Verdict) (p : Plan) → unless {A = Planned} v (λ w. record { verdict = w; plan = emptyPlan }) (record { verdict = Fine; plan = p }) .verdict ≡ v
 either-verdict Fine p = refl
 either-verdict (Refused r) p = refl
 
@@ -43,11 +43,11 @@ module _ (q : Query) (statements-sized : length (q .«where_statements» .items)
   none-refused = sym (plan-verdict q) ∙ accepted
 
   -- so the query is as it must be, no variable is bound twice, and the plan is there
-  query-fine : queryFault q ≡ Fine
+  pub query-fine : queryFault q ≡ Fine
   unfolding planFault
   query-fine = or-fine (queryFault q) (boundTwiceFault [] (statementsOf q) 0) none-refused .0
 
-  bound-fine : boundTwiceFault [] (statementsOf q) 0 ≡ Fine
+  pub bound-fine : boundTwiceFault [] (statementsOf q) 0 ≡ Fine
   unfolding planFault
   bound-fine = or-fine (queryFault q) (boundTwiceFault [] (statementsOf q) 0) none-refused .1
 

@@ -30,15 +30,15 @@ span-length s zero = refl
 span-length s (suc n) = ap suc (span-length (s + 1) n)
 
 -- a row stands at a number
-record At (r : List ℕ) (f : ℕ → List ℕ) (s n : ℕ) : Type 0 where
-  at : ℕ
-  from : s ≤ at
-  below : at < s + n
-  is : r ≡ f at
+pub record At (r : List ℕ) (f : ℕ → List ℕ) (s n : ℕ) : Type 0 where
+  pub at : ℕ
+  pub from : s ≤ at
+  pub below : at < s + n
+  pub is : r ≡ f at
 
 module _ (f : ℕ → List ℕ) where
   -- what is among rows stands at a number
-  among-where : (r : List ℕ) (s n : ℕ) → isAmong r (map f (span s n)) ≡ true → At r f s n
+  pub among-where : (r : List ℕ) (s n : ℕ) → isAmong r (map f (span s n)) ≡ true → At r f s n
   unfolding isAmong span
   among-where r s zero h = absurd (false≢true h)
   among-where r s (suc n) h = go (sameRow r (f s)) refl (among-where r (s + 1) n)

@@ -64,12 +64,15 @@ module _ (ts : Tables) (s : Scan) where
     standing-stood k a =
         stood-by (s .index) (s .flow) (s .entity) (s .value) (row (tableOf ts (s .index)) k) a (ok .not-out-out-eavt) (ok .apart)
 
-    -- a scan's rows are the same
+    -- a scan's key is the same, and so are its rows
+    pub key-agree : {a b : List ℕ} → Agree (s ∷ after) a b
+        → take (1 + inputs (s .flow)) (rowFor (s .index) (wanted s a)) ≡ take (1 + inputs (s .flow)) (rowFor (s .index) (wanted s b))
+    key-agree {a} {b} h =
+        key-by (s .index) (s .flow) s a b (ok .not-out-out-eavt) (λ r. h .same _ (ok .first-kept r)) (λ r. h .same _ (ok .second-kept r))
+
     pub visited-agree : {a b : List ℕ} → Agree (s ∷ after) a b → visited ts s a ≡ visited ts s b
     unfolding visited
-    visited-agree {a} {b} h =
-        ap (matching (tableOf ts (s .index)))
-        (key-by (s .index) (s .flow) s a b (ok .not-out-out-eavt) (λ r. h .same _ (ok .first-kept r)) (λ r. h .same _ (ok .second-kept r)))
+    visited-agree h = ap (matching (tableOf ts (s .index))) (key-agree h)
 
     pub standing-length : (k : ℕ) (a : List ℕ) → length (standing ts s a k) ≡ length a
     standing-length k a = ap length (standing-stood k a) ∙ stood-length _ _ _ _ (s .flow) a

@@ -1,13 +1,14 @@
 -- A plan that passes the check is steady: what a scan reads is set before it, and what is set no scan from it on writes.
 use mathlib.Core.Path.{_≡_, refl, sym, _∙_}
-use mathlib.Core.Bool.{Bool, true, false, _||_, false≢true, or-assoc, or-false}
+use mathlib.Core.Bool.{Bool, true, false, _||_, false≢true, or-assoc, or-false, or-true}
 use mathlib.Core.List.{List, [], _∷_, _++_}
 use Prim.Native.Nat.{ℕ, zero, suc, _+_, _-_, _<_}
 use native.Mathlib.Omega.{arith}
+use native.Mathlib.Nat.{zero-add}
 use lib.ListN.{length, getD, take, drop, drop-of-length-le}
 use lib.Seq.{take-suc, drop-cons}
 use lib.Dec.{eqb}
-use borrow.Author.Tests.{eqb-true, eqb-false}
+use borrow.Author.Tests.{eqb-true, eqb-false, eq-eqb}
 use Rattle.plan.specs.declared.Scan.{Scan}
 use Rattle.plan.specs.declared.SlotRecord.{SlotRecord}
 use Rattle.plan.specs.declared.Plan.{Plan}
@@ -15,11 +16,16 @@ use Rattle.plan.specs.declared.Flow.{Flow}
 use Rattle.plan.specs.declared.Flow.the-variants.{OutOut, InOut, InIn}
 use Rattle.plan.specs.declared.Access.{Access}
 use Rattle.plan.specs.declared.Access.the-variants.{Reads, Writes}
-use Rattle.plan.specs.Plan.{firstSlot, secondSlot, firstAccess, secondAccess, zeroScan, scansOf, slotsOf}
+use Rattle.plan.specs.Plan.{firstSlot, secondSlot, firstAccess, secondAccess, isConstant, variableSlot, zeroScan, scansOf, slotsOf}
 use Rattle.plan_check.specs.Check.{writesTo, firstWrites, secondWrites, written, isSet}
 use Rattle.plan_check.specs.Promised.{Rightly, Fits, Promised}
 use Rattle.visits.proofs.Stood.{neither}
 use Rattle.visits.proofs.Slots.{Sound}
+
+-- what a scan leaves in its two slots stays there
+pub record Last (s : Scan) (after : List Scan) : Type 0 where
+  pub first-last : written after (firstSlot s .0) ≡ false
+  pub second-last : written after (secondSlot s .0) ≡ false
 
 -- what some scans and then others write
 written-append : (before after : List Scan) (k : ℕ) → written (before ++ after) k ≡ (written before k || written after k)
@@ -52,7 +58,7 @@ second-set InOut set x y r e = cc
 second-set InIn set x y r e = rw or-false at r
 
 -- no access reads and writes
-no-writes : {A : Type 0} → Reads ≡ Writes → A
+pub no-writes : {A : Type 0} → Reads ≡ Writes → A
 no-writes e = let z : _≡_ {A = Bool} false true = cc in absurd (false≢true z)
 
 -- no scan writes one slot twice
@@ -60,6 +66,30 @@ slots-apart : (f : Flow) (set : Bool) (x y : ℕ) → Rightly (secondAccess f) (
 slots-apart OutOut set x y r e = eqb-false x y (neither set (eqb x y) r .1)
 slots-apart InOut set x y r e = no-writes e
 slots-apart InIn set x y r e = no-writes e
+
+-- what a scan accesses rightly is set after it
+after-set : (slots : List SlotRecord) (before : List Scan) (s : Scan) (k : ℕ) → (isSet slots before k || (firstWrites s k || secondWrites s k)) ≡ true
+    → isSet slots (before ++ (s ∷ [])) k ≡ true
+unfolding isSet written
+after-set slots before s k e =
+    let c = isConstant (getD slots k variableSlot .definition) in
+    rw (written-append before (s ∷ []) k, or-false (firstWrites s k || secondWrites s k))
+    (sym (or-assoc c (written before k) (firstWrites s k || secondWrites s k)) ∙ e)
+
+reads-or-writes : (a : Access) (set : Bool) (x : ℕ) → Rightly a set → (set || writesTo a x x) ≡ true
+reads-or-writes Reads set x r = rw r refl
+reads-or-writes Writes set x r = rw (eq-eqb x x refl) (or-true set)
+
+module _ (slots : List SlotRecord) (before : List Scan) (s : Scan) (f : Fits slots before s) where
+  first-after : isSet slots (before ++ (s ∷ [])) (firstSlot s .0) ≡ true
+  first-after =
+      after-set slots before s (firstSlot s .0)
+      (rw (← or-assoc, reads-or-writes (firstAccess (s .flow)) (isSet slots before (firstSlot s .0)) (firstSlot s .0) (f .first-right)) refl)
+
+  second-after : isSet slots (before ++ (s ∷ [])) (secondSlot s .0) ≡ true
+  second-after =
+      after-set slots before s (secondSlot s .0)
+      (rw (← or-assoc) (reads-or-writes (secondAccess (s .flow)) (isSet slots before (secondSlot s .0) || firstWrites s (secondSlot s .0)) (secondSlot s .0) (f .second-right)))
 
 module _ (slots : List SlotRecord) (ss : List Scan) (fit : (j : ℕ) → j < length ss → Fits slots (take j ss) (getD ss j zeroScan)) where
   -- what is set before scan i is not written from it on
@@ -82,6 +112,18 @@ module _ (slots : List SlotRecord) (ss : List Scan) (fit : (j : ℕ) → j < len
   kept : (i k : ℕ) → i < length ss → isSet slots (take i ss) k ≡ true → written (getD ss i zeroScan ∷ drop (suc i) ss) k ≡ false
   kept i k low e = rw (drop-cons ss i zeroScan low) at (set-kept (length ss - i) i k (omega arith) e)
 
+  -- after a scan both its slots are set, so no later scan writes them
+  slots-last : (i : ℕ) → i < length ss → Last (getD ss i zeroScan) (drop (suc i) ss)
+  slots-last i low =
+      let s = getD ss i zeroScan in
+      let f = fit i low in
+      let next : take (suc i) ss ≡ take i ss ++ (s ∷ []) = take-suc ss i zeroScan low in
+      let left : suc i + (length ss - suc i) ≡ length ss = omega arith in
+      record {
+        first-last = set-kept (length ss - suc i) (suc i) _ left (rw next (first-after slots (take i ss) s f));
+        second-last = set-kept (length ss - suc i) (suc i) _ left (rw next (second-after slots (take i ss) s f));
+      }
+
   fit-sound : Sound (length slots) ss
   fit-sound i low =
       let s = getD ss i zeroScan in
@@ -101,3 +143,11 @@ module _ (slots : List SlotRecord) (ss : List Scan) (fit : (j : ℕ) → j < len
 -- all that evaluation uses of a plan's scans
 pub promised-sound : (p : Plan) → Promised p → Sound (length (slotsOf p)) (scansOf p)
 promised-sound p q = fit-sound (slotsOf p) (scansOf p) (q .scans-fit)
+
+-- and what the rows that it yields mean leans on besides
+pub promised-last : (p : Plan) → Promised p → (i : ℕ) → i < length (scansOf p) → Last (getD (scansOf p) i zeroScan) (drop (suc i) (scansOf p))
+promised-last p q = slots-last (slotsOf p) (scansOf p) (q .scans-fit)
+
+-- no scan writes a constant's slot
+pub constant-kept : (p : Plan) → Promised p → (k : ℕ) → isSet (slotsOf p) [] k ≡ true → written (scansOf p) k ≡ false
+constant-kept p q k e = set-kept (slotsOf p) (scansOf p) (q .scans-fit) (length (scansOf p)) 0 k (zero-add (length (scansOf p))) e

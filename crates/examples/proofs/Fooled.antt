@@ -1,0 +1,69 @@
+-- What does not mean E: rows without the duplicate, no rows, rows copied in from other tables, and the rows of a plan over another attribute.
+use mathlib.Core.Path.{_≡_, refl}
+use mathlib.Core.List.{List, [], _∷_}
+use Prim.Native.Nat.{ℕ}
+use native.Mathlib.Omega.{arith}
+use Rattle.capacity.specs.Capacity.{maxStatements, maxSelects}
+use Rattle.refusal.specs.declared.Verdict.the-variants.{Fine}
+use Rattle.lists.specs.Padded.{padded}
+use Rattle.lists.proofs.Padded.{padded-length}
+use Rattle.orders.proofs.Counts.{same, holds, timesIn, holds-yes}
+use Rattle.query.specs.Query.{named}
+use Rattle.query_check.specs.Refusals.{constants, statementsFault, selectsFault, unusedFault, capacityFault, variablesFault, queryFault}
+use Rattle.planner.specs.Refusals.{boundTwiceFault, planFault}
+use Rattle.planner.specs.Planning.{slotsOfConstants, scanOf, scansFor, planFor, planOf}
+use Rattle.tables.specs.Rows.{row, span, before, ascending, begins, keep, matching}
+use Rattle.tables.specs.Check.{sameRow, isAmong, missingFault, tablesFault}
+use Rattle.tables.specs.Passed.{Passed}
+use Rattle.tables.proofs.Promises.{tables-pass}
+use Rattle.visits.specs.Visits.{Tables, visited, standing, each, visits, slotsAt, rowList}
+use Rattle.meaning.specs.Meaning.{Meaning}
+use Rattle.meaning.proofs.SameRows.{same-rows}
+use Rattle.meaning.proofs.Entries.{plan-shown}
+use Rattle.examples.specs.Bench.{e, overAttribute, triples, noTriples}
+
+-- E is planned
+accepted : planOf e .verdict ≡ Fine
+unfolding planOf planFault queryFault capacityFault variablesFault constants statementsFault selectsFault unusedFault named boundTwiceFault padded
+accepted = refl
+
+-- its plan's rows mean it, over any tables that pass their check
+e-means : (ts : Tables) → Passed (ts .aevt) (ts .avet) (ts .eavt) → Meaning ts e (rowList (planOf e .plan) ts)
+e-means ts passed = plan-shown e (padded-length _ maxStatements _) (padded-length _ maxSelects _) ts passed accepted .meaning
+
+triples-pass : Passed (triples .aevt) (triples .avet) (triples .eavt)
+triples-pass = tables-pass (triples .aevt) (triples .avet) (triples .eavt) checked
+  where
+    checked : tablesFault (triples .aevt) (triples .avet) (triples .eavt) ≡ Fine
+    checked = unfold tablesFault missingFault isAmong sameRow ascending before row span in refl
+
+none-pass : Passed [] [] []
+none-pass = tables-pass [] [] [] checked
+  where
+    checked : tablesFault [] [] [] ≡ Fine
+    checked = unfold tablesFault missingFault ascending span in refl
+
+-- a row of 11 counts
+eleven : holds (same (11 ∷ []) (11 ∷ [])) ≡ 1
+eleven = holds-yes (same (11 ∷ []) (11 ∷ [])) refl
+
+-- 11 stands twice in any rows that mean E over the triples
+pub eleven-twice : (r : List (List ℕ)) → Meaning triples e r → timesIn (11 ∷ []) r ≡ 2
+unfolding timesIn planOf planFault queryFault capacityFault variablesFault constants statementsFault selectsFault unusedFault named boundTwiceFault padded planFor scansFor scanOf slotsOfConstants rowList visits visited standing each slotsAt matching keep begins span row
+eleven-twice r m = omega (arith, same-rows m (e-means triples triples-pass) (11 ∷ []), eleven)
+
+pub not-deduplicated : Meaning triples e ((11 ∷ []) ∷ []) → ⊥
+unfolding timesIn
+not-deduplicated m = omega (arith, eleven-twice _ m, eleven)
+
+pub not-nothing : Meaning triples e [] → ⊥
+unfolding timesIn
+not-nothing m = omega (arith, eleven-twice _ m)
+
+pub not-copied : Meaning noTriples e ((11 ∷ []) ∷ (11 ∷ []) ∷ []) → ⊥
+unfolding timesIn planOf planFault queryFault capacityFault variablesFault constants statementsFault selectsFault unusedFault named boundTwiceFault padded planFor scansFor scanOf slotsOfConstants rowList visits visited standing each slotsAt matching keep begins span row
+not-copied m = omega (arith, same-rows m (e-means noTriples none-pass) (11 ∷ []), eleven)
+
+pub not-another-attribute : Meaning triples e (rowList overAttribute triples) → ⊥
+unfolding timesIn padded rowList visits visited standing each slotsAt matching keep begins span row
+not-another-attribute m = omega (arith, eleven-twice _ m)

@@ -1,0 +1,1 @@
+// Laws only: the bench examples of document 01 that are to be proved.

@@ -1,0 +1,169 @@
+-- A refused query has a reason: each of 10 to 16 is given only where its sentence is true, at the lowest place, and one of them wherever
+-- planning gives no plan.
+use mathlib.Core.Path.{_≡_, refl, sym, ap, subst, _∙_}
+use mathlib.Core.Logic.{_⊎_, inl, inr, ⊎-elim}
+use Prim.Native.Nat.{ℕ, zero, suc, _+_, _<_}
+use native.Mathlib.Numerals.{add-one}
+use native.Mathlib.Nat.{zero-add, add-zero, not-suc-le-zero}
+use native.Mathlib.Omega.{arith}
+use mathlib.Core.List.{List, [], _∷_}
+use mathlib.Core.Bool.{not, false≢true}
+use borrow.Author.Tests.{ltb-true, leb-true, leb-false, eqb-true, not-true, not-false}
+use lib.ListN.{length, getD, drop, drop-of-length-le}
+use lib.Seq.{drop-cons}
+use lib.Dec.{ltb, leb, eqb}
+use Rattle.capacity.specs.Capacity.{maxStatements, maxSlots, maxSelects}
+use Rattle.refusal.specs.declared.Verdict.{Verdict}
+use Rattle.refusal.specs.declared.Verdict.the-variants.{Fine, Refused}
+use Rattle.refusal.specs.Verdict.{refuseIf, unless}
+use Rattle.refusal.proofs.Fine.{refuse-fine, or-fine}
+use Rattle.query.specs.declared.Var.{Var}
+use Rattle.query.specs.declared.Statement.{Statement}
+use Rattle.query.specs.declared.Query.{Query}
+use Rattle.query.specs.Query.{statementsOf, selectsOf, named, zeroVar, zeroStatement}
+use Rattle.query_check.specs.Refusals.{constants, high, statementsFault, selectsFault, unusedFault, capacityFault, variablesFault, queryFault}
+use Rattle.query_check.proofs.Variables.{statements-below}
+use Rattle.plan.specs.declared.Plan.{Plan}
+use Rattle.plan.specs.Plan.{emptyPlan}
+use Rattle.planner.specs.Refusals.{planFault}
+use Rattle.planner.specs.declared.Planned.{Planned}
+use Rattle.planner.specs.Planning.{planFor, planOf}
+use Rattle.planner.proofs.Accepted.{query-fits}
+use Rattle.planned.proofs.Places.{selects-below, all-named}
+use Rattle.planned.proofs.Passes.{either-verdict}
+use Rattle.meaning.specs.Reasons.{HighStatement, HighSelect, Unnamed, QueryReason, over-statements, over-slots, over-selects, no-selects, high-statement, high-select, unused, queryRefusal, PlanReason, of-query, new-twice, planRefusal, PlanningExplained}
+use Rattle.meaning.proofs.Parts.{parts}
+use Rattle.meaning.proofs.Sound.{bound-explained, bound-sound}
+use Rattle.meaning.proofs.Explained.{Explained, or-explained, if-explained, high-names, below-names, below-next}
+
+module _ (q : Query) where
+  abbrev n : ℕ
+  n = q .«variable_count»
+
+  abbrev ss : List Statement
+  ss = statementsOf q
+
+  abbrev vs : List Var
+  vs = selectsOf q
+
+  abbrev m : ℕ
+  m = q .«where_statements» .count
+
+  -- 14, statements
+  statements-explained : (left i : ℕ) → i + left ≡ length ss → ((j : ℕ) → j < i → HighStatement q j → ⊥)
+      → Explained (queryRefusal {q = q}) (statementsFault n (drop i ss) i)
+  unfolding statementsFault
+  statements-explained zero i e h = rw (drop-of-length-le ss {i = i} (omega arith)) (inl refl)
+  statements-explained (suc left) i e h =
+      let low : i < length ss = omega arith in
+      let s = getD ss i zeroStatement in
+      rw (drop-cons ss i zeroStatement low)
+      (or-explained queryRefusal (refuseIf (high n s) 14 i) _
+      (if-explained queryRefusal (high n s) 14 i
+      (λ t.
+      let w = high-names n (s .entity .0) (s .value) t in
+      (high-statement i (record { here = (low, w .0, w .1, w .2); none-lower = h }), refl)))
+      (λ f.
+      subst (λ (k : ℕ). Explained (queryRefusal {q = q}) (statementsFault n (drop k ss) (i + 1))) (add-one i)
+      (statements-explained left (i + 1) (omega arith)
+      (below-next (HighStatement q) i h
+      (λ w.
+      let b = statements-below n (s ∷ []) i (rw (refuse-fine (high n s) 14 i f) refl) 0 s (omega arith) in
+      below-names n (s .entity .0) (s .value) (b .entity-below) (b .value-below) (w .1) (w .2) (w .3))))))
+
+  none-high : statementsFault n ss 0 ≡ Fine → (j : ℕ) → HighStatement q j → ⊥
+  none-high low j w =
+      let s = getD ss j zeroStatement in
+      let b = statements-below n ss 0 low j zeroStatement (w .0) in
+      below-names n (s .entity .0) (s .value) (b .entity-below) (b .value-below) (w .1) (w .2) (w .3)
+
+  -- 14, selects
+  selects-explained : ((j : ℕ) → HighStatement q j → ⊥) → (left i : ℕ) → i + left ≡ length vs → ((j : ℕ) → j < i → HighSelect q j → ⊥)
+      → Explained (queryRefusal {q = q}) (selectsFault n (drop i vs) (m + i))
+  unfolding selectsFault
+  selects-explained none zero i e h = rw (drop-of-length-le vs {i = i} (omega arith)) (inl refl)
+  selects-explained none (suc left) i e h =
+      let low : i < length vs = omega arith in
+      let v = getD vs i zeroVar in
+      let next : m + i + 1 ≡ m + (i + 1) = omega arith in
+      rw (drop-cons vs i zeroVar low)
+      (or-explained queryRefusal (refuseIf (leb n (v .0)) 14 (m + i)) _
+      (if-explained queryRefusal (leb n (v .0)) 14 (m + i) (λ t. (high-select none i (record { here = (low, leb-true _ _ t); none-lower = h }), refl)))
+      (λ f.
+      rw next
+      (subst (λ (k : ℕ). Explained (queryRefusal {q = q}) (selectsFault n (drop k vs) (m + (i + 1)))) (add-one i)
+      (selects-explained none left (i + 1) (omega arith)
+      (below-next (HighSelect q) i h (λ w. omega (arith, w .1, leb-false n (v .0) (refuse-fine _ 14 (m + i) f))))))))
+
+  -- 15
+  unused-explained : (left v : ℕ) → v + left ≡ n → ((u : ℕ) → u < v → Unnamed q u → ⊥) → Explained (queryRefusal {q = q}) (unusedFault ss left v)
+  unfolding unusedFault
+  unused-explained zero v e h = inl refl
+  unused-explained (suc left) v e h =
+      or-explained queryRefusal (refuseIf (not (named ss v)) 15 v) _
+      (if-explained queryRefusal (not (named ss v)) 15 v (λ t. (unused v (record { here = (omega arith, not-true _ t); none-lower = h }), refl)))
+      (λ f.
+      unused-explained left (v + 1) (omega arith)
+      (below-next (Unnamed q) v h (λ w. false≢true (sym (w .1) ∙ not-false _ (refuse-fine _ 15 v f)))))
+
+  -- 10 to 13
+  capacity-explained : Explained (queryRefusal {q = q}) (capacityFault n m ss (q .select .count))
+  unfolding capacityFault
+  capacity-explained =
+      or-explained queryRefusal (refuseIf (ltb maxStatements m) 10 0) _
+      (if-explained queryRefusal (ltb maxStatements m) 10 0 (λ t. (over-statements (omega (arith, ltb-true maxStatements m t)), refl)))
+      (λ _.
+      or-explained queryRefusal (refuseIf (ltb maxSlots (n + constants ss)) 11 0) _
+      (if-explained queryRefusal (ltb maxSlots (n + constants ss)) 11 0 (λ t. (over-slots (omega (arith, ltb-true maxSlots (n + constants ss) t)), refl)))
+      (λ _.
+      or-explained queryRefusal (refuseIf (ltb maxSelects (q .select .count)) 12 0) _
+      (if-explained queryRefusal (ltb maxSelects (q .select .count)) 12 0 (λ t. (over-selects (omega (arith, ltb-true maxSelects (q .select .count) t)), refl)))
+      (λ _. if-explained queryRefusal (eqb (q .select .count) 0) 13 0 (λ t. (no-selects (eqb-true _ _ t), refl)))))
+
+  pub query-explained : Explained (queryRefusal {q = q}) (queryFault q)
+  unfolding queryFault variablesFault
+  query-explained =
+      or-explained queryRefusal (capacityFault n m ss (q .select .count)) _ capacity-explained
+      (λ _.
+      or-explained queryRefusal (statementsFault n ss 0) _ (statements-explained (length ss) 0 (zero-add _) (λ j l. absurd (not-suc-le-zero l)))
+      (λ low.
+      or-explained queryRefusal (selectsFault n vs m) _
+      (rw add-zero at (selects-explained (none-high low) (length vs) 0 (zero-add _) (λ j l. absurd (not-suc-le-zero l))))
+      (λ _. unused-explained n 0 (zero-add _) (λ j l. absurd (not-suc-le-zero l)))))
+
+  -- and where none is refused, none of the sentences is true
+  pub query-sound : queryFault q ≡ Fine → QueryReason q → ⊥
+  query-sound fine (over-statements h) = omega (arith, h, query-fits q fine .few-statements)
+  query-sound fine (over-slots h) = omega (arith, h, query-fits q fine .few-slots)
+  query-sound fine (over-selects h) = omega (arith, h, query-fits q fine .few-selects)
+  query-sound fine (no-selects h) = omega (arith, h, query-fits q fine .some-select)
+  query-sound fine (high-statement i h) = none-high (parts q fine .statements-fine) i (h .here)
+  query-sound fine (high-select z i h) = let w = h .here in omega (arith, w .1, selects-below n vs m (parts q fine .selects-fine) i zeroVar (w .0))
+  query-sound fine (unused v h) =
+      let w = h .here in
+      false≢true (sym (w .1) ∙ rw zero-add at (all-named ss n 0 (parts q fine .used-fine) v (w .0)))
+
+  plan-explained : Explained (planRefusal {q = q}) (planFault q)
+  unfolding planFault
+  plan-explained =
+      or-explained planRefusal (queryFault q) _ (⊎-elim inl (λ w. inr (of-query (w .0), w .1)) query-explained)
+      (λ _. ⊎-elim inl (λ w. inr (new-twice (w .0 .0) (w .0 .1), w .1)) (bound-explained ss))
+
+  pub plan-sound : planFault q ≡ Fine → PlanReason q → ⊥
+  unfolding planFault
+  plan-sound fine (of-query r) = query-sound (or-fine (queryFault q) _ fine .0) r
+  plan-sound fine (new-twice i h) = bound-sound ss (or-fine (queryFault q) _ fine .1) i (h .here)
+
+  either-answer : (p : Plan) (v : Verdict) → Explained (planRefusal {q = q}) v →
+      let answer = unless {A = Planned} v (λ w. record { verdict = w; plan = emptyPlan }) (record { verdict = Fine; plan = p }) in
+      (answer ≡ record { verdict = Fine; plan = p }) ⊎ ((w : PlanReason q) × (answer ≡ record { verdict = planRefusal w; plan = emptyPlan }))
+  either-answer p Fine x = inl refl
+  either-answer p (Refused r) (inl e) = let z : _≡_ {A = ℕ} 0 1 = cc in absurd (omega arith)
+  either-answer p (Refused r) (inr (w, e)) = inr (w, ap (λ (v : Verdict). record { verdict = v; plan = emptyPlan }) e)
+
+  pub planning-explained : PlanningExplained q
+  unfolding planOf
+  planning-explained = record {
+    answer = either-answer (planFor n m ss (q .select .count) vs) (planFault q) plan-explained;
+    refuses = λ w e. plan-sound (sym (either-verdict (planFault q) _) ∙ e) w;
+  }

@@ -1,0 +1,4 @@
+pub mod Meaning
+pub mod Reasons
+pub mod Searched
+pub mod Shown

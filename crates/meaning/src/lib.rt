@@ -1,0 +1,1 @@
+// Laws only: what the rows of a query mean, and why one is refused.
