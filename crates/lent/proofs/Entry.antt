@@ -14,7 +14,6 @@ use prog.Routine.{Routine}
 use prog.Wp.{Heap, Calls, Loops, WpFn, Tables}
 use ghost.Atoms.{Atoms, sem}
 use contract.Monad.{Fun, fact}
-use contract.Running.{givenOf, tables, tablesOf}
 use types.Kit.{Given, ‵, raw, _⊛_, some, later, ⋆, _$_, _∵_, !, qed, by, move, keep, drop, use0, use1, use2, split, join, pick, fsplit, fjoin, suffices, frame, await, done}
 use types.Run.{look, init, forget, stop, from, load, and-then, no-more, land, returns, enter, alloc1, alloc0, params1, pass1, pass0, free1, free0}
 use sound.WpLaws.{FmC, fmOf, WpFn-mono}
@@ -34,7 +33,6 @@ use denote.Triple.Call.{calls-at}
 use denote.Triple.Clauses.{Ended, Clauses, ensured, lasts, closing}
 use denote.Triple.Entry.{Vals, onEntry}
 use denote.Triple.Spec.{Meets, tripleOf}
-use denote.Triple.Table.{entered, cited}
 use denote.Triple.Walked.{says, Stays, stay-none-slice, stay-none, walkOf, goes-none-slice, goes-none, Walks, ends-at, walked, walk-meets}
 use denote.Exit.{yes}
 use Rattle.query.specs.declared.Var.{Var}
@@ -49,13 +47,9 @@ use Rattle.query.proofs.Selects as L
 use Rattle.query.proofs.Selects.Laws as L′
 use Rattle.lent.specs.Lent.{readStatements, readSelects}
 use Rattle.lent.proofs.read_statements as read
-use Rattle.lent.proofs.read_statements.Symbol as read-def
 use Rattle.lent.proofs.read_statements.Symbol.{name as #read-statements}
-use Rattle.lent.proofs.read_statements.Met as read-thm
 use Rattle.lent.proofs.read_selects as reads
-use Rattle.lent.proofs.read_selects.Symbol as reads-def
 use Rattle.lent.proofs.read_selects.Symbol.{name as #read-selects}
-use Rattle.lent.proofs.read_selects.Met as reads-thm
 
 -- such a function: the type of its answer with its laws, its core, and what the core answers of so many variables and what was read
 pub record Entry : Type 2 where

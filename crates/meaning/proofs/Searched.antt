@@ -4,7 +4,8 @@ use mathlib.Core.Logic.{_⊎_, inl, inr, ⊎-elim}
 use Prim.Native.Nat.{ℕ, _≤_}
 use native.Mathlib.Omega.{arith}
 use mathlib.Core.List.{List, [], _∷_, List·Memᴰ, List·Memᴰ·head, List·Memᴰ·not-nil}
-use borrow.Author.Tests.{ltb-true, ltb-false, le-ltb}
+use mathlib.Core.Bool.{Bool, true, false, false≢true}
+use borrow.Author.Tests.{ltb-true, ltb-false}
 use lib.ListN.{length}
 use lib.Dec.{ltb}
 use Rattle.capacity.specs.Capacity.{maxStatements, maxSelects, maxSearched}
@@ -19,9 +20,10 @@ use Rattle.plan.specs.declared.Scan.{Scan}
 use Rattle.planner.specs.Planning.{scansFor}
 use Rattle.planned.proofs.Initial.{scans-initial}
 use Rattle.search.specs.declared.Found.{Found}
-use Rattle.search.specs.Search.{Candidate, arranged, weighed, leastFrom, foundAs, notFound, firstLeast, searchOf}
+use Rattle.search.specs.Search.{Candidate, arranged, isSound, weighed, leastFrom, foundAs, notFound, firstLeast, searchOf}
 use Rattle.search.specs.FirstLeast.{FirstLeast}
 use Rattle.search.proofs.First.{least-first}
+use Rattle.search.proofs.Cheapest.{refuses-unsound, unsound-refused}
 use Rattle.meaning.specs.Meaning.{Clear, SoundOrder, ListedIn}
 use Rattle.meaning.specs.Reasons.{SearchReason, of-query, over-searched, no-sound-order, searchRefusal}
 use Rattle.meaning.specs.Searched.{weighedIn, Cheapest, SearchExplained}
@@ -91,16 +93,15 @@ module _ (q : Query) (statements-sized : length (q .«where_statements» .items)
     either-found (c ∷ cs) e a = inl (cheapest c cs e a)
 
     -- 18
-    none-refused : (l : List Candidate) → weighedIn q ≡ l → searchOf q ≡ firstLeast q l → ((o : List ℕ) → SoundOrder q o → ⊥) → searchOf q ≡ notFound (refused 18 0)
-    none-refused [] e a h = a
-    none-refused (c ∷ cs) e a h = let w = some-sound c cs e in absurd (h (w .0) (w .1))
+    none-refused : ((o : List ℕ) → SoundOrder q o → ⊥) → searchOf q ≡ notFound (refused 18 0)
+    none-refused h = unsound-refused q (clear .fine) few (λ o p. go (isSound (arranged (statementsOf q) o)) refl (λ e. h o (record { order = p; sound = e })))
+      where
+        go : (t : Bool) {u : Bool} → u ≡ t → (u ≡ true → ⊥) → u ≡ false
+        go true e n = absurd (n e)
+        go false e n = e
 
-    refused-none : (l : List Candidate) → weighedIn q ≡ l → searchOf q ≡ firstLeast q l → searchOf q .verdict ≡ refused 18 0 → (o : List ℕ) → SoundOrder q o → ⊥
-    refused-none [] e a h = none-sound e
-    refused-none (c ∷ cs) e a h =
-        let v : _≡_ {A = Verdict} Fine (refused 18 0) = sym (ap (λ (f : Found). f .verdict) a) ∙ h in
-        let z : _≡_ {A = ℕ} 0 1 = cc in
-        absurd (omega arith)
+    refused-none : searchOf q .verdict ≡ refused 18 0 → (o : List ℕ) → SoundOrder q o → ⊥
+    refused-none h o s = false≢true (sym (refuses-unsound q (clear .fine) few h o (s .order)) ∙ s .sound)
 
     fine-sound-order : (l : List Candidate) → weighedIn q ≡ l → searchOf q ≡ firstLeast q l → searchOf q .verdict ≡ Fine → ((o : List ℕ) → SoundOrder q o → ⊥) → ⊥
     fine-sound-order [] e a h n =
@@ -143,6 +144,5 @@ module _ (q : Query) (statements-sized : length (q .«where_statements» .items)
     refuses = searched-refuses;
     no-order =
         λ clear few.
-        let e : front ≡ Fine = rw (clear .fine, le-ltb maxSearched (q .«where_statements» .count) few) refl in
-        (λ h. refused-none clear few (weighedIn q) refl (front-fine e) (ap (λ (f : Found). f .verdict) h), none-refused clear few (weighedIn q) refl (front-fine e));
+        (λ h. refused-none clear few (ap (λ (f : Found). f .verdict) h), none-refused clear few);
   }

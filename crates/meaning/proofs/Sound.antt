@@ -11,21 +11,18 @@ use borrow.Author.Tests.{not-true}
 use lib.ListN.{length, getD, take, drop, drop-of-length-le}
 use lib.Seq.{drop-cons, take-suc}
 use Rattle.refusal.specs.declared.Verdict.{Verdict}
-use Rattle.refusal.specs.declared.Verdict.the-variants.{Fine, Refused}
+use Rattle.refusal.specs.declared.Verdict.the-variants.{Fine}
 use Rattle.refusal.specs.Verdict.{refused, refuseIf}
 use Rattle.refusal.proofs.Fine.{refuse-fine}
 use Rattle.query.specs.declared.Statement.{Statement}
 use Rattle.query.specs.Query.{isVariable, named, zeroStatement}
 use Rattle.planner.specs.Refusals.{bindsTwice, boundTwiceFault}
 use Rattle.planned.proofs.Places.{bound-once}
-use Rattle.search.specs.Search.{isFine, isSound}
+use Rattle.search.specs.Search.{isSound}
+use Rattle.search.proofs.Answer.{sound-fine}
 use Rattle.tables.proofs.Order.{both}
 use Rattle.meaning.specs.Reasons.{Lowest, NewTwice}
 use Rattle.meaning.proofs.Explained.{Explained, or-explained, if-explained, below-next}
-
-pub fine-sound : (v : Verdict) → isFine v ≡ true → v ≡ Fine
-fine-sound Fine e = refl
-fine-sound (Refused r) e = absurd (false≢true e)
 
 -- 16 at the lowest statement that binds one variable twice
 abbrev pub boundRefusal : (ss : List Statement) → (i : ℕ) × Lowest (NewTwice ss) i → Verdict
@@ -62,6 +59,6 @@ module _ (ss : List Statement) where
   -- an order is sound if and only if no statement has one variable as both entity and value that no earlier statement names
   pub sound-without : (isSound ss ≡ true) ↔ ((i : ℕ) → NewTwice ss i → ⊥)
   sound-without = (
-    λ e. bound-sound (fine-sound (boundTwiceFault [] ss 0) e),
+    λ e. bound-sound (sound-fine (boundTwiceFault [] ss 0) e),
     λ n. ⊎-elim (λ e. rw e refl) (λ w. absurd (n (w .0 .0) (w .0 .1 .here))) bound-explained,
   )

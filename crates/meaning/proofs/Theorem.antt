@@ -13,13 +13,14 @@ use Rattle.plan.specs.Plan.{scansOf, selectsOf as slotsSelected}
 use Rattle.plan_check.specs.Check.{checkOf}
 use Rattle.planner.specs.Refusals.{boundTwiceFault}
 use Rattle.planner.specs.Planning.{slotOf}
+use Rattle.search.specs.Best.{arrangedQuery}
+use Rattle.search.proofs.Answer.{sound-fine}
 use Rattle.search.specs.Search.{arranged}
 use Rattle.tables.specs.Passed.{Passed}
 use Rattle.visits.specs.Visits.{Tables}
 use Rattle.meaning.specs.Meaning.{Answers, Meaning, Clear, SoundOrder, ListedIn, planIn, rowsIn}
-use Rattle.meaning.proofs.Sound.{fine-sound}
 use Rattle.meaning.proofs.Given.{given-meaning, first-selects, listed-scans, listed-checked}
-use Rattle.meaning.proofs.Ordered.{ordered, ordered-statements, ordered-clear, ordered-facts}
+use Rattle.meaning.proofs.Ordered.{ordered-statements, ordered-clear, ordered-facts}
 
 -- two lists that hold the same assignments, none twice, hold each as often
 pub determined : {ts : Tables} {q : Query} {l m : List (List ℕ)} → Answers ts q l → Answers ts q m → (a : List ℕ) → timesIn a l ≡ timesIn a m
@@ -32,10 +33,10 @@ determined {ts} {q} {l} {m} x y a = go (timesIn a l) refl (timesIn a m) refl
 
 module _ (q : Query) (clear : Clear q) (o : List ℕ) (sound : SoundOrder q o) (l : List Scan) (listed : ListedIn q o l) where
   abbrev turned : Query
-  turned = ordered q o
+  turned = arrangedQuery q o
 
   turned-once : boundTwiceFault [] (statementsOf turned) 0 ≡ Fine
-  turned-once = rw (ordered-statements q clear o (sound .order)) (fine-sound (boundTwiceFault [] (arranged (statementsOf q) o) 0) (sound .sound))
+  turned-once = rw (ordered-statements q clear o (sound .order)) (sound-fine (boundTwiceFault [] (arranged (statementsOf q) o) 0) (sound .sound))
 
   -- the plan passes its check
   pub plan-checked : checkOf (planIn q o l) ≡ Fine

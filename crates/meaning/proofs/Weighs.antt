@@ -1,12 +1,10 @@
 -- The search weighs every plan of every sound order and nothing else, and a plan's weight is its cost.
 use mathlib.Core.Path.{_≡_, refl}
-use Prim.Native.Nat.{ℕ, zero, _+_, _^_, _≤_, _<_}
-use native.Mathlib.Nat.{pow-le-pow-right}
+use Prim.Native.Nat.{ℕ, _≤_}
 use native.Mathlib.Omega.{arith}
-use mathlib.Core.List.{List, [], _∷_, _++_}
-use borrow.Author.Tests.{lt-leb}
+use mathlib.Core.List.{List, []}
 use lib.ListN.{length, getD, length-map}
-use Rattle.capacity.specs.Capacity.{maxElements, maxSearched}
+use Rattle.capacity.specs.Capacity.{maxSearched}
 use Rattle.refusal.specs.declared.Verdict.the-variants.{Fine}
 use Rattle.refusal.proofs.Fine.{or-fine}
 use Rattle.orders.proofs.Lists.{length-upFrom}
@@ -15,30 +13,17 @@ use Rattle.query.specs.Query.{statementsOf, zeroStatement}
 use Rattle.plan.specs.declared.Scan.{Scan}
 use Rattle.plan.specs.Plan.{countsFault, flowsFault}
 use Rattle.plan_check.specs.Check.{checkOf}
-use Rattle.cost.specs.Cost.{weight, weightFault, costOf}
+use Rattle.cost.specs.Cost.{weight, costOf}
 use Rattle.planner.proofs.Statements.{length-scans}
 use Rattle.listing.proofs.SameAccesses.{same-length}
 use Rattle.listing.proofs.Passes.{same-listed}
 use Rattle.listing.proofs.NextLists.{same-flows}
-use Rattle.search.specs.Search.{orders, arranged, weighed}
-use Rattle.search.proofs.Bounded.{weight-most}
-use Rattle.search.proofs.Weighed.{every-order, only-orders, every-plan, only-plans}
+use Rattle.search.specs.Search.{arranged, weighed}
+use Rattle.search.proofs.Bounded.{fault-fine}
+use Rattle.search.proofs.Cheapest.{weighs-every, weighs-only}
 use Rattle.meaning.specs.Meaning.{Clear, SoundOrder, ListedIn, planIn}
 use Rattle.meaning.specs.Searched.{Weighs}
 use Rattle.meaning.proofs.Theorem.{plan-checked, plan-has}
-
--- the cost of so few scans does not pass 2^64 - 1, from whatever scan on
-few-fit : (before ss : List Scan) → length ss ≤ maxSearched → weight before ss < 2 ^ 64
-few-fit before ss h =
-    let some : zero < 200 = omega arith in
-    let m : 200 ^ length ss ≤ 200 ^ maxSearched = pow-le-pow-right some h in
-    omega (arith, m, weight-most before ss)
-
-few-fine : (before ss : List Scan) (i : ℕ) → length ss ≤ maxSearched → weightFault before ss i ≡ Fine
-unfolding weightFault
-few-fine before [] i h = refl
-few-fine before (s ∷ ss) i h =
-    rw (few-fine (before ++ (s ∷ [])) ss (i + 1) (omega arith), lt-leb (2 ^ 64) (weight before (s ∷ ss)) (few-fit before (s ∷ ss) h)) refl
 
 module _ (q : Query) (clear : Clear q) (few : q .«where_statements» .count ≤ maxSearched) where
   listed-few : (o : List ℕ) (l : List Scan) → SoundOrder q o → ListedIn q o l → length l ≤ maxSearched
@@ -54,19 +39,11 @@ module _ (q : Query) (clear : Clear q) (few : q .«where_statements» .count ≤
   plan-costs o l sound listed =
       let p = planIn q o l in
       let counts = or-fine (countsFault (p .«scan_count») (p .«slot_count») (p .«select_count»)) _ (plan-checked q clear o sound l listed) .0 in
-      rw (counts, plan-has q clear o sound l listed, same-flows (same-listed _ l listed) 0, few-fine [] l 0 (listed-few o l sound listed)) refl
+      rw (counts, plan-has q clear o sound l listed, same-flows (same-listed _ l listed) 0, fault-fine [] l 0 (listed-few o l sound listed)) refl
 
   pub weighs : Weighs q
-  weighs =
-      let m = q .«where_statements» .count in
-      let n = q .«variable_count» in
-      let ss = statementsOf q in
-      let fits : m ≤ maxElements = omega arith in
-      record {
-        every = λ o l s p. every-plan n ss (orders m) o l (every-order m fits o (s .order)) (s .sound) p;
-        only =
-            λ c h.
-            let w = only-plans n ss (orders m) c h in
-            (w .0, w .1, record { order = only-orders m fits (w .0) (w .2); sound = w .3 }, w .4, w .5);
-        costs = plan-costs;
-      }
+  weighs = record {
+    every = λ o l s p. weighs-every q (clear .fine) few o (s .order) (s .sound) l p;
+    only = λ c h. let w = weighs-only q (clear .fine) few c h in (w .0, w .1, record { order = w .2; sound = w .3 }, w .4, w .5);
+    costs = plan-costs;
+  }

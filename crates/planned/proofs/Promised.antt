@@ -12,7 +12,6 @@ use lib.Dec.{leb}
 use Rattle.capacity.specs.Capacity.{maxStatements, maxScans, maxSlots, maxSelects}
 use Rattle.refusal.specs.declared.Verdict.the-variants.{Fine}
 use Rattle.refusal.proofs.Fine.{or-fine}
-use Rattle.lists.specs.Padded.{padded}
 use Rattle.lists.proofs.Padded.{padded-take}
 use Rattle.query.specs.declared.Var.{Var}
 use Rattle.query.specs.declared.Statement.{Statement}

@@ -1,14 +1,14 @@
 -- What the best of all candidates says of the answer: 18 where there is none, else the plan of its order with its scans.
-use mathlib.Core.Path.{_≡_, refl, sym, ap, subst, _∙_}
+use mathlib.Core.Path.{_≡_, refl, sym, ap, _∙_}
 use mathlib.Core.Logic.{_⊎_, inl, inr}
 use Prim.Native.Nat.{ℕ, suc, _≤_, _<_}
 use native.Mathlib.Omega.{arith}
-use mathlib.Core.List.{List, [], _∷_, _++_, map, List·Memᴰ, List·Memᴰ·head, List·Memᴰ·tail, List·Memᴰ·not-nil, List·Memᴰ·cases-cons, List·Memᴰ·append-cases}
+use mathlib.Core.List.{List, [], _∷_, map, List·Memᴰ, List·Memᴰ·head, List·Memᴰ·tail, List·Memᴰ·not-nil, List·Memᴰ·cases-cons, List·Memᴰ·append-cases}
 use mathlib.Core.Bool.{Bool, true, false, cond, false≢true}
 use borrow.Author.Tests.{lt-ltb, le-ltb}
 use lib.ListN.{length, take}
 use lib.Dec.{ltb}
-use Rattle.capacity.specs.Capacity.{maxElements, maxScans, maxSearched}
+use Rattle.capacity.specs.Capacity.{maxScans, maxSearched}
 use Rattle.refusal.specs.declared.Refusal.{Refusal}
 use Rattle.refusal.specs.declared.Verdict.{Verdict}
 use Rattle.refusal.specs.declared.Verdict.the-variants.{Fine, Refused}
@@ -24,14 +24,12 @@ use Rattle.query_check.specs.Refusals.{queryFault}
 use Rattle.plan.specs.declared.Scan.{Scan}
 use Rattle.plan.specs.declared.Plan.{Plan}
 use Rattle.plan.specs.Plan.{zeroScan}
-use Rattle.planner.specs.Refusals.{boundTwiceFault}
 use Rattle.planner.specs.Planning.{scansFor, planFor, planOf}
 use Rattle.planned.proofs.Passes.{plan-verdict}
 use Rattle.listing.specs.Next.{withScans}
 use Rattle.listing.specs.Listing.{cycleOf, before, combinations}
 use Rattle.search.specs.declared.Best.{Best}
-use Rattle.search.specs.declared.Found.{Found}
-use Rattle.search.specs.Search.{Candidate, orders, arranged, isFine, isSound, weighed, candidates, leastFrom, foundAs, notFound, firstLeast, searchOf}
+use Rattle.search.specs.Search.{Candidate, orders, arranged, isFine, candidates, leastFrom, foundAs, notFound, firstLeast, searchOf}
 use Rattle.search.specs.Best.{none, kept, bestFrom, arrangedQuery, planWith, chosen, Searchable, Orders}
 use Rattle.search.proofs.Kept.{best-first, best-of-none}
 use Rattle.search.proofs.Weighed.{map-mem, only-orders, Weighed, only-plans}
@@ -71,7 +69,7 @@ listed-long [] l i = go (List·Memᴰ·cases-cons i)
 listed-long (s ∷ ss) l i = before-long (length ss) (cycleOf s) (combinations ss) (listed-long ss) l i
 
 -- a sound order is not refused
-sound-fine : (v : Verdict) → isFine v ≡ true → v ≡ Fine
+pub sound-fine : (v : Verdict) → isFine v ≡ true → v ≡ Fine
 sound-fine Fine e = refl
 sound-fine (Refused r) e = absurd (false≢true e)
 

@@ -12,7 +12,7 @@ use lib.ListN.{length, getD, length-append, length-map}
 use lib.Seq.{ext-getD}
 use lib.Dec.{ltb}
 use Rattle.refusal.specs.declared.Verdict.the-variants.{Fine}
-use Rattle.refusal.specs.Verdict.{refuseIf, orElse}
+use Rattle.refusal.specs.Verdict.{refuseIf}
 use Rattle.refusal.proofs.Fine.{refuse-fine, or-fine}
 use Rattle.orders.specs.Lists.{upFrom, upTo, one, times, OrderOf}
 use Rattle.orders.proofs.Lists.{times-append, length-upFrom}
@@ -94,25 +94,36 @@ unfolding named sum
 named-sum ss v [] = refl
 named-sum ss v (x ∷ o) = rw (named-sum ss v o) (or-positive (names (getD ss x zeroStatement) v) (sum (λ i. one (names (getD ss i zeroStatement) v)) o))
 
--- no statement names a variable that is too high exactly if a sum is 0
-high-sum : (ss : List Statement) (n : ℕ) (o : List ℕ) (i : ℕ) → statementsFault n (arranged ss o) i ≡ Fine → sum (λ j. one (high n (getD ss j zeroStatement))) o ≡ 0
-unfolding statementsFault sum
-high-sum ss n [] i e = refl
-high-sum ss n (x ∷ o) i e =
-    let t = high n (getD ss x zeroStatement) in
-    let f = or-fine (refuseIf t 14 i) _ e in
-    rw (refuse-fine t 14 i (f .0)) (zero-add _ ∙ high-sum ss n o (i + 1) (f .1))
+-- so is the number of statements that a test is true of
+unfoldable pub many : (Statement → Bool) → List Statement → ℕ
+many f [] = 0
+many f (s ∷ ss) = one (f s) + many f ss
 
-sum-high : (ss : List Statement) (n : ℕ) (o : List ℕ) (i : ℕ) → sum (λ j. one (high n (getD ss j zeroStatement))) o ≡ 0 → statementsFault n (arranged ss o) i ≡ Fine
-unfolding statementsFault sum
-sum-high ss n [] i e = refl
-sum-high ss n (x ∷ o) i e = go (high n (getD ss x zeroStatement)) e (sum-high ss n o (i + 1))
-  where
-    go : (t : Bool) → one t + sum (λ j. one (high n (getD ss j zeroStatement))) o ≡ 0
-        → (sum (λ j. one (high n (getD ss j zeroStatement))) o ≡ 0 → statementsFault n (arranged ss o) (i + 1) ≡ Fine)
-        → orElse (refuseIf t 14 i) (statementsFault n (arranged ss o) (i + 1)) ≡ Fine
-    go true f r = absurd (omega (arith, f))
-    go false f r = r (omega (arith, f))
+many-sum : (f : Statement → Bool) (ss : List Statement) (o : List ℕ) → many f (arranged ss o) ≡ sum (λ i. one (f (getD ss i zeroStatement))) o
+unfolding many sum
+many-sum f ss [] = refl
+many-sum f ss (x ∷ o) = ap (λ (n : ℕ). one (f (getD ss x zeroStatement)) + n) (many-sum f ss o)
+
+pub many-order : (f : Statement → Bool) (ss : List Statement) (o : List ℕ) → OrderOf (upTo (length ss)) o → many f (arranged ss o) ≡ many f ss
+many-order f ss o order =
+    many-sum f ss o ∙ sym (sum-order _ (upTo (length ss)) o order) ∙ sym (many-sum f ss (upTo (length ss))) ∙ ap (many f) (arranged-all ss)
+
+-- 14 asks that no statement is high
+one-none : (b : Bool) → one b ≡ 0 → b ≡ false
+one-none false e = refl
+one-none true e = absurd (omega arith)
+
+low-none : (n : ℕ) (ss : List Statement) (i : ℕ) → statementsFault n ss i ≡ Fine → many (high n) ss ≡ 0
+unfolding many statementsFault
+low-none n [] i e = refl
+low-none n (s ∷ ss) i e =
+    let o = or-fine (refuseIf (high n s) 14 i) _ e in
+    omega (arith, low-none n ss (i + 1) (o .1), ap one (refuse-fine (high n s) 14 i (o .0)))
+
+none-low : (n : ℕ) (ss : List Statement) (i : ℕ) → many (high n) ss ≡ 0 → statementsFault n ss i ≡ Fine
+unfolding many statementsFault
+none-low n [] i e = refl
+none-low n (s ∷ ss) i e = rw (one-none (high n s) (omega (arith, e))) (none-low n ss (i + 1) (omega (arith, e)))
 
 -- a number that stands in an order is one of those below
 times-at : (o : List ℕ) (i : ℕ) → i < length o → 1 ≤ times (getD o i 0) o
@@ -140,9 +151,7 @@ module _ (ss : List Statement) (o : List ℕ) (order : OrderOf (upTo (length ss)
   length-order = length-map o (λ j. getD ss j zeroStatement) ∙ order .long ∙ length-upFrom 0 (length ss)
 
   pub statements-order : (n : ℕ) → statementsFault n ss 0 ≡ Fine → statementsFault n (arranged ss o) 0 ≡ Fine
-  statements-order n e =
-      let h = high-sum ss n (upTo (length ss)) 0 (ap (λ (l : List Statement). statementsFault n l 0) (arranged-all ss) ∙ e) in
-      sum-high ss n o 0 (sym (sum-order _ (upTo (length ss)) o order) ∙ h)
+  statements-order n e = none-low n (arranged ss o) 0 (many-order (high n) ss o order ∙ low-none n ss 0 e)
 
   pub constants-order : constants (arranged ss o) ≡ constants ss
   constants-order = constants-sum ss o ∙ sym (sum-order _ (upTo (length ss)) o order) ∙ sym (constants-sum ss (upTo (length ss))) ∙ ap constants (arranged-all ss)

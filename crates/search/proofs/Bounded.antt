@@ -69,7 +69,7 @@ pub weight-fits : (ss : List Scan) → length ss ≤ maxSearched → weight [] s
 weight-fits = weight-below []
 
 -- so none of them is refused 27
-fault-fine : (before ss : List Scan) (i : ℕ) → length ss ≤ maxSearched → weightFault before ss i ≡ Fine
+pub fault-fine : (before ss : List Scan) (i : ℕ) → length ss ≤ maxSearched → weightFault before ss i ≡ Fine
 unfolding weightFault
 fault-fine before [] i h = refl
 fault-fine before (s ∷ ss) i h = simp (fault-fine (before ++ (s ∷ [])) ss (i + 1) (omega arith), lt-leb (2 ^ 64) _ (weight-below before (s ∷ ss) h))

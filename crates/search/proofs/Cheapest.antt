@@ -21,7 +21,7 @@ use Rattle.search.specs.declared.Found.{Found}
 use Rattle.search.specs.Search.{Candidate, orders, arranged, isSound, weighed, candidates, leastFrom, foundAs, notFound, firstLeast, searchOf}
 use Rattle.search.specs.FirstLeast.{FirstLeast}
 use Rattle.search.proofs.First.{least-first}
-use Rattle.search.proofs.Weighed.{every-order, only-orders, every-plan, Weighed, only-plans}
+use Rattle.search.proofs.Weighed.{every-order, only-orders, every-plan, only-plans}
 use Rattle.search.proofs.Answer.{search-first}
 
 module _ (q : Query) (fine : queryFault q ≡ Fine) (few : q .«where_statements» .count ≤ maxSearched) where

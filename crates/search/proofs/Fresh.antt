@@ -2,22 +2,20 @@
 use mathlib.Core.Path.{_≡_, refl, sym, ap, _∙_}
 use Prim.Native.Nat.{ℕ, _≤_}
 use native.Mathlib.Omega.{arith}
-use mathlib.Core.List.{List, [], _∷_, map}
-use mathlib.Core.Bool.{true, false}
+use mathlib.Core.List.{List, [], map}
 use lib.ListN.{length, take}
 use lib.Seq.{length-take-le}
-use Rattle.capacity.specs.Capacity.{maxStatements, maxScans, maxSelects, maxSearched}
+use Rattle.capacity.specs.Capacity.{maxStatements, maxScans, maxSelects}
 use Rattle.refusal.specs.declared.Refusal.{Refusal}
 use Rattle.refusal.specs.declared.Verdict.the-variants.{Fine, Refused}
 use Rattle.refusal.proofs.Fine.{or-fine}
 use Rattle.lists.specs.Padded.{padded}
 use Rattle.lists.proofs.Padded.{padded-length, padded-take}
 use Rattle.orders.specs.Lists.{upTo, OrderOf}
-use Rattle.orders.proofs.Lists.{length-upFrom}
 use Rattle.query.specs.declared.Query.{Query}
 use Rattle.query.specs.declared.Statement.{Statement}
 use Rattle.query.specs.Query.{statementsOf, selectsOf, zeroStatement}
-use Rattle.query_check.specs.Refusals.{statementsFault, selectsFault, unusedFault, capacityFault, variablesFault, queryFault}
+use Rattle.query_check.specs.Refusals.{statementsFault, capacityFault, variablesFault, queryFault}
 use Rattle.plan.specs.declared.Scan.{Scan}
 use Rattle.plan.specs.declared.Plan.{Plan}
 use Rattle.plan.specs.Plan.{zeroScan}
@@ -48,12 +46,12 @@ module _ (q : Query) (sized : length (q .«where_statements» .items) ≡ maxSta
   long : length ss ≡ count
   long = length-take-le count (q .«where_statements» .items) (omega (arith, few, sized))
 
-  of-statements : OrderOf (upTo (length ss)) o
-  of-statements = rw long order
+  pub statements-ordered : OrderOf (upTo (length ss)) o
+  statements-ordered = rw long order
 
   -- its statements
   pub arranged-statements : statementsOf (arrangedQuery q o) ≡ arranged ss o
-  arranged-statements = padded-take zeroStatement maxStatements count (arranged ss o) (length-order ss o of-statements ∙ long) few
+  arranged-statements = padded-take zeroStatement maxStatements count (arranged ss o) (length-order ss o statements-ordered ∙ long) few
 
   -- it is not refused either
   pub arranged-fine : queryFault (arrangedQuery q o) ≡ Fine
@@ -62,7 +60,7 @@ module _ (q : Query) (sized : length (q .«where_statements» .items) ≡ maxSta
       let n = q .«variable_count» in
       let a = or-fine (capacityFault n count ss (q .select .count)) _ fine in
       let b = or-fine (statementsFault n ss 0) _ (a .1) in
-      rw (arranged-statements, constants-order ss o of-statements, a .0, statements-order ss o of-statements n (b .0), unused-order ss o of-statements n 0) (b .1)
+      rw (arranged-statements, constants-order ss o statements-ordered, a .0, statements-order ss o statements-ordered n (b .0), unused-order ss o statements-ordered n 0) (b .1)
 
   -- and planning refuses it exactly if the order is not sound
   pub arranged-fault : planFault (arrangedQuery q o) ≡ boundTwiceFault [] (arranged ss o) 0
@@ -77,7 +75,7 @@ module _ (q : Query) (sized : length (q .«where_statements» .items) ≡ maxSta
   initial = scansFor [] (arranged ss o) n
 
   pub initial-long : length initial ≡ count
-  initial-long = length-scans [] (arranged ss o) n ∙ length-order ss o of-statements ∙ long
+  initial-long = length-scans [] (arranged ss o) n ∙ length-order ss o statements-ordered ∙ long
 
   -- none where it is not sound
   pub unsound-none : (r : Refusal) → planOf (arrangedQuery q o) .verdict ≡ Refused r → candidatesOf n ss o ≡ []

@@ -2,21 +2,19 @@
 use mathlib.Core.Path.{_≡_, refl, sym, ap, subst, _∙_}
 use Prim.Native.Nat.{ℕ, zero, suc, _≤_, _<_}
 use native.Mathlib.Omega.{arith}
-use mathlib.Core.List.{List, [], _∷_, _++_, append-nil}
+use mathlib.Core.List.{List, [], _∷_, _++_}
 use mathlib.Core.Bool.{true, false, false≢true}
 use borrow.Author.Tests.{le-ltb}
 use lib.ListN.{length, take, drop, take-append-drop}
 use lib.Seq.{length-take-le, take-at}
 use Rattle.capacity.specs.Capacity.{maxElements, maxSearched}
-use Rattle.refusal.specs.declared.Verdict.the-variants.{Fine}
 use Rattle.lists.specs.Padded.{padded}
 use Rattle.lists.proofs.Padded.{padded-length, padded-take, padded-other}
 use Rattle.permutation.specs.declared.Permutations.{Permutations}
 use Rattle.permutation.specs.declared.Swap.{Swap}
 use Rattle.permutation.specs.declared.NextSwap.{NextSwap}
-use Rattle.permutation.specs.declared.Step.{Step}
 use Rattle.permutation.specs.Swaps.{given, start, elementsFault, freshOf, nextOf}
-use Rattle.orders.specs.Lists.{swapped, upTo, factorial, OrderOf}
+use Rattle.orders.specs.Lists.{swapped, upTo, factorial}
 use Rattle.orders.specs.Heap.{heap}
 use Rattle.orders.specs.Listing.{answerAt, answerIn}
 use Rattle.orders.proofs.Lists.{length-upFrom, length-swapped, swapped-append, order-swapped, order-refl, order-trans}

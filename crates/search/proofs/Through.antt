@@ -6,7 +6,7 @@ use mathlib.Core.List.{List, [], _∷_, _++_, map}
 use mathlib.Core.Bool.{Bool, true, false, cond, false≢true}
 use lib.ListN.{length, take, drop}
 use lib.Seq.{length-take-le, take-at}
-use Rattle.capacity.specs.Capacity.{maxScans, maxSearched}
+use Rattle.capacity.specs.Capacity.{maxScans}
 use Rattle.lists.specs.Padded.{padded}
 use Rattle.lists.proofs.Padded.{padded-length, padded-other}
 use Rattle.plan.specs.declared.Scan.{Scan}

@@ -1,9 +1,9 @@
 -- What the private functions of the search keep: the best of the candidates weighed so far.
 use mathlib.Core.Path.{_≡_}
-use Prim.Native.Nat.{ℕ, _≤_, _<_}
+use Prim.Native.Nat.{ℕ, _≤_}
 use mathlib.Core.List.{List, [], _∷_}
 use mathlib.Core.Bool.{Bool, true, false, cond}
-use lib.ListN.{length, getD, take, replicate}
+use lib.ListN.{length, take, replicate}
 use lib.Dec.{ltb}
 use Rattle.capacity.specs.Capacity.{maxStatements, maxSelects, maxScans, maxSearched}
 use Rattle.lists.specs.Padded.{padded}

@@ -26,7 +26,6 @@ ghost use lib.ListN.{take};
 ghost use Rattle.capacity.specs.Capacity.{maxStatements, maxSearched};
 ghost use Rattle.refusal.specs.declared.Verdict.the-variants.{Fine};
 ghost use Rattle.query.specs.Query.{statementsOf, zeroStatement};
-ghost use Rattle.query_check.specs.Refusals.{queryFault};
 ghost use Rattle.lists.specs.Padded.{padded};
 ghost use Rattle.orders.specs.Lists.{swapped, upTo};
 ghost use Rattle.planner.specs.Planning.{planOf};

@@ -1,7 +1,6 @@
 // Evaluation as C functions, for the benchmark (bench/run). The plan comes as decimal numbers (crate `given`).
 use plan::Plan;
 use refusal::Verdict;
-ghost use mathlib.Core.Path.{_≡_};
 ghost use Rattle.walk.specs.Steps.{tablesOf};
 ghost use Rattle.eval.specs.Evaluation.{Evaluable};
 

@@ -1,12 +1,8 @@
 -- `arrange_items` meets its contract: after i turns the array is filled with i statements.
-use mathlib.Core.Path.{_≡_, sym, ap, _∙_}
-use Prim.Native.Nat.{_≤_, _<_, _-_}
+use mathlib.Core.Path.{_≡_}
+use Prim.Native.Nat.{_≤_, _-_}
 use native.Mathlib.Omega.{arith}
 use borrow.Author.Needs.{needs}
-use mathlib.Core.List.{List}
-use lib.ListN.{length, take, set}
-use Rattle.capacity.specs.Capacity.{maxStatements}
-use Rattle.query.specs.declared.Statement.{Statement}
 use Rattle.search.proofs.Filled.{filled, filled-start, number-below, filled-more}
 use Rattle.search.proofs.arrange_items.Statement.{statement}
 use Rattle.search.proofs.arrange_items.Tie as tie
