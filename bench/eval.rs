@@ -16,6 +16,8 @@ mod random;
 #[path = "../compare/rust_plan.rs"]
 mod rust_plan;
 
+mod timing;
+
 use database::{heap, store, tables, Nothing, View};
 use datom::Tid;
 use eval::Evaluator;
@@ -24,7 +26,7 @@ use plan_cases::{case, numbers, Case};
 use random::Random;
 use rust_plan::rust_plan;
 use std::hint::black_box;
-use std::time::Instant;
+use timing::{median, time};
 
 // A lent slice is a pointer and a length.
 #[link(name = "timed", kind = "static")]
@@ -65,18 +67,6 @@ fn theirs(plan: &Plan, view: &View<Nothing, Nothing>) {
     for row in Evaluator::new(plan, view) {
         black_box(row);
     }
-}
-
-// Microseconds.
-fn time<F: FnMut()>(mut f: F) -> f64 {
-    let start = Instant::now();
-    f();
-    start.elapsed().as_nanos() as f64 / 1000.0
-}
-
-fn median(mut of: Vec<f64>) -> f64 {
-    of.sort_by(|x, y| x.partial_cmp(y).unwrap());
-    of[of.len() / 2]
 }
 
 fn queries() -> Vec<(&'static str, Case)> {

@@ -16,11 +16,13 @@ mod query_cases;
 #[path = "../compare/random.rs"]
 mod random;
 
+mod timing;
+
 use permutation::Permutations;
 use planner::Planner;
 use query_cases::{bound_twice, case, chain, numbers, query_of, Case};
 use std::hint::black_box;
-use std::time::Instant;
+use timing::{median, time};
 
 #[link(name = "timed_search", kind = "static")]
 extern "C" {
@@ -66,18 +68,6 @@ fn theirs(case: &Case) -> (u64, u64) {
     (best.0, weighed)
 }
 
-// Milliseconds.
-fn time<F: FnMut()>(mut f: F) -> f64 {
-    let start = Instant::now();
-    f();
-    start.elapsed().as_nanos() as f64 / 1000000.0
-}
-
-fn median(mut of: Vec<f64>) -> f64 {
-    of.sort_by(|x, y| x.partial_cmp(y).unwrap());
-    of[of.len() / 2]
-}
-
 fn main() {
     let pair: Vec<_> = (0..6).map(|i| (0, i, false, 1)).collect();
     let queries = vec![
@@ -97,6 +87,6 @@ fn main() {
             new.push(rattle);
             ratios.push(rattle / rust);
         }
-        println!("{}: {} plans, cost {}, Rust {:.2} ms, here {:.2} ms, ratio {:.2}", name, weighed, cost, median(old), median(new), median(ratios));
+        println!("{}: {} plans, cost {}, Rust {:.2} ms, here {:.2} ms, ratio {:.2}", name, weighed, cost, median(old) / 1000.0, median(new) / 1000.0, median(ratios));
     }
 }
