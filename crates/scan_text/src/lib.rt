@@ -44,6 +44,7 @@ pub fn write_scan(
     }
 }
 
+// As `for machine:0, valve:1 in aevt`.
 fn write_out_out(
     index: Index,
     first: Slot,
@@ -64,6 +65,7 @@ fn write_out_out(
     write(b"\n", at, out)
 }
 
+// As `for valve:1 in aevt (entity=machine:0)`.
 fn write_in_out(
     index: Index,
     first: Slot,
@@ -85,6 +87,7 @@ fn write_in_out(
     write(b")\n", at, out)
 }
 
+// As `for _ in aevt (entity=valve:1, value=:2)`.
 fn write_in_in(
     index: Index,
     first: Slot,
@@ -118,6 +121,7 @@ fn write_index(index: Index, at: usize, out: &mut [u8]) -> usize
     }
 }
 
+// Labels follow index order.
 fn write_first_label(index: Index, at: usize, out: &mut [u8]) -> usize
     ensures { λ r. ⌜ Written (firstLabel index) at (now (out .entry)) r (now (out .exit)) ⌝ }
 {
