@@ -16,7 +16,7 @@ use plan::SlotRecord;
 use refusal::Verdict;
 use refusal::refuse;
 ghost use mathlib.Core.Path.{_≡_};
-ghost use Prim.Native.Nat.{_+_, min};
+ghost use Prim.Native.Nat.{min};
 ghost use lib.ListN.{take, getD};
 ghost use Rattle.plan_names.specs.Names.{nameStart, nameOf, constantAt, wrongEnd, endsFault, namesFault, selectNameFault, selectNameOf};
 ghost use Rattle.plan.specs.Plan.{isConstant, zeroSlot};
@@ -37,11 +37,8 @@ pub fn check_select_name(plan: Plan, names: &[u8], ends: &[usize], index: usize)
     }
     let select = plan.select;
     let slots = plan.slots;
-    if is_constant(
-        slots,
-        plan.slot_count,
-        slot_at(select, plan.select_count, index),
-    ) {
+    let slot = slot_at(select, plan.select_count, index);
+    if is_constant(slots, plan.slot_count, slot) {
         return refuse(refusal::CONSTANT_SELECTED, index);
     }
     Verdict::Fine
@@ -56,7 +53,8 @@ pub fn get_select_name<'a>(plan: Plan, names: &'a [u8], ends: &[usize], index: u
         return &names[..0];
     }
     let select = plan.select;
-    get_name(slot_at(select, plan.select_count, index), names, ends)
+    let slot = slot_at(select, plan.select_count, index);
+    get_name(slot, names, ends)
 }
 
 // The plan check, and then 30: what the text and a name begin with.

@@ -15,8 +15,8 @@ use Rattle.plan.specs.Plan.{firstSlot, secondSlot, scansOf, slotsOf, selectsOf,
 use Rattle.pieces.specs.Ascii.{ascii}
 use Rattle.pieces.specs.Decimal.{decimal}
 use Rattle.plan_names.specs.Names.{nameStart, nameOf, constantAt}
-use Rattle.scan_text.specs.Line.{shownName, slotText, flowLine, scanLine}
-use Rattle.plan_text.specs.Text.{constantLines, scanLines, joined, selectsText, textOf}
+use Rattle.scan_text.specs.Line.{shownName, slotText, scanLine}
+use Rattle.plan_text.specs.Text.{scanLines, joined, selectsText, textOf}
 
 -- past the ends there is no name
 name-past : (names ends : List ℕ) (k : ℕ) → length ends ≤ k → nameOf names ends k ≡ []

@@ -1,5 +1,4 @@
 -- `get_name` meets its contract: the name's place is clipped to the names.
-use mathlib.Core.Path.{_∙_}
 use borrow.Author.Needs.{needs}
 use Rattle.plan_names.specs.Names.{nameOf}
 use Rattle.plan_names.proofs.Names.{part-clipped}
