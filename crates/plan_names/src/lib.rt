@@ -96,9 +96,10 @@ fn is_wrong_end(bytes: usize, before: usize, end: usize) -> bool
 }
 
 // The name of a slot, a part of the names. Where ends are wrong it is as much of it as there is.
-pub fn get_name<'a>(i_slot: usize, names: &'a [u8], ends: &[usize]) -> &'a [u8]
-    ensures { λ r. ⌜ now r ≡ nameOf (now (names .entry)) (now (ends .entry)) «i_slot» ⌝ }
+pub fn get_name<'a>(slot: Slot, names: &'a [u8], ends: &[usize]) -> &'a [u8]
+    ensures { λ r. ⌜ now r ≡ nameOf (now (names .entry)) (now (ends .entry)) (slot .0) ⌝ }
 {
+    let i_slot = slot.0 as usize;
     let end = least(end_at(i_slot, ends), names.len());
     let start = least(start_at(i_slot, ends), end);
     &names[start..end]
@@ -131,9 +132,10 @@ fn least(a: usize, b: usize) -> usize
 }
 
 // Whether a slot, of so many, is a constant.
-pub fn is_constant(slots: [SlotRecord; MAX_SLOTS], slot_count: usize, i_slot: usize) -> bool
-    ensures { λ r. ⌜ r ≡ constantAt (take «slot_count» slots) «i_slot» ⌝ }
+pub fn is_constant(slots: [SlotRecord; MAX_SLOTS], slot_count: usize, slot: Slot) -> bool
+    ensures { λ r. ⌜ r ≡ constantAt (take «slot_count» slots) (slot .0) ⌝ }
 {
+    let i_slot = slot.0 as usize;
     if slot_count <= i_slot {
         return false;
     }
@@ -146,17 +148,16 @@ pub fn is_constant(slots: [SlotRecord; MAX_SLOTS], slot_count: usize, i_slot: us
 }
 
 // The slot of a select, of so many.
-fn slot_at(select: [Slot; MAX_SELECTS], select_count: usize, index: usize) -> usize
-    ensures { λ r. ⌜ r ≡ getD (take «select_count» select) index zeroSlot .0 ⌝ }
+fn slot_at(select: [Slot; MAX_SELECTS], select_count: usize, index: usize) -> Slot
+    ensures { λ r. ⌜ r ≡ getD (take «select_count» select) index zeroSlot ⌝ }
 {
     if select_count <= index {
-        return 0;
+        return Slot(0);
     }
     if MAX_SELECTS <= index {
-        return 0;
+        return Slot(0);
     }
-    let slot = select[index];
-    slot.0 as usize
+    select[index]
 }
 
 // A constant starts set; a variable is set by a scan.

@@ -169,11 +169,10 @@ fn write_name(
 ) -> usize
     ensures { λ r. ⌜ Written (shownName (constantAt (take (length (now (ends .entry))) slots) (slot .0)) (nameOf (now (names .entry)) (now (ends .entry)) (slot .0))) at (now (out .entry)) r (now (out .exit)) ⌝ }
 {
-    let i_slot = slot.0 as usize;
     // There is an end for each slot.
-    if plan_names::is_constant(slots, ends.len(), i_slot) {
+    if plan_names::is_constant(slots, ends.len(), slot) {
         return at;
     }
-    let name = plan_names::get_name(i_slot, names, ends);
+    let name = plan_names::get_name(slot, names, ends);
     write(name, at, out)
 }
