@@ -14,7 +14,7 @@ use Rattle.pieces.specs.Decimal.{digit, digitsWithin, decimal, readOn, D
 -- digits read one part after the other
 read-append : (a b : List ℕ) (v : ℕ) → readOn v (a ++ b) ≡ readOn (readOn v a) b
 read-append [] b v = refl
-read-append (d ∷ a) b v = read-append a b (v * 10 + (d - 48))
+read-append (d ∷ a) b v = read-append a b (v * 10 + (d - digit 0))
 
 -- a digit below ten
 one-digit : (n : ℕ) → n < 10 → DigitsOf n (digit n ∷ [])

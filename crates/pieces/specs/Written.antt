@@ -13,7 +13,8 @@ largest = 2 ^ 64 - 1
 abbrev pub after : ℕ → ℕ → ℕ
 after at count = min (at + count) largest
 
--- a piece is written over a buffer from a position on, as far as the buffer reaches: the position after it, and the buffer then
+-- a piece is written over a buffer from a position on, as far as the buffer reaches: the position after it, and the buffer then.
+-- Position and length are numbers that are held.
 pub record Written (piece : List ℕ) (at : ℕ) (buffer : List ℕ) (at′ : ℕ) (buffer′ : List ℕ) : Type 0 where
   pub position-is : at′ ≡ after at (length piece)
   pub buffer-is : buffer′ ≡ sets buffer at piece

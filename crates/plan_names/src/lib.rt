@@ -16,7 +16,7 @@ use plan::SlotRecord;
 use refusal::Verdict;
 use refusal::refuse;
 ghost use mathlib.Core.Path.{_≡_};
-ghost use Prim.Native.Nat.{_+_, min};
+ghost use Prim.Native.Nat.{min};
 ghost use lib.ListN.{take, getD};
 ghost use Rattle.plan_names.specs.Names.{nameStart, nameOf, constantAt, wrongEnd, endsFault, namesFault, selectNameFault, selectNameOf};
 ghost use Rattle.plan.specs.Plan.{isConstant, zeroSlot};
@@ -37,11 +37,8 @@ pub fn check_select_name(plan: Plan, names: &[u8], ends: &[usize], index: usize)
     }
     let select = plan.select;
     let slots = plan.slots;
-    if is_constant(
-        slots,
-        plan.slot_count,
-        slot_at(select, plan.select_count, index),
-    ) {
+    let slot = slot_at(select, plan.select_count, index);
+    if is_constant(slots, plan.slot_count, slot) {
         return refuse(refusal::CONSTANT_SELECTED, index);
     }
     Verdict::Fine
@@ -56,7 +53,8 @@ pub fn get_select_name<'a>(plan: Plan, names: &'a [u8], ends: &[usize], index: u
         return &names[..0];
     }
     let select = plan.select;
-    get_name(slot_at(select, plan.select_count, index), names, ends)
+    let slot = slot_at(select, plan.select_count, index);
+    get_name(slot, names, ends)
 }
 
 // The plan check, and then 30: what the text and a name begin with.
@@ -98,9 +96,10 @@ fn is_wrong_end(bytes: usize, before: usize, end: usize) -> bool
 }
 
 // The name of a slot, a part of the names. Where ends are wrong it is as much of it as there is.
-pub fn get_name<'a>(i_slot: usize, names: &'a [u8], ends: &[usize]) -> &'a [u8]
-    ensures { λ r. ⌜ now r ≡ nameOf (now (names .entry)) (now (ends .entry)) «i_slot» ⌝ }
+pub fn get_name<'a>(slot: Slot, names: &'a [u8], ends: &[usize]) -> &'a [u8]
+    ensures { λ r. ⌜ now r ≡ nameOf (now (names .entry)) (now (ends .entry)) (slot .0) ⌝ }
 {
+    let i_slot = slot.0 as usize;
     let end = least(end_at(i_slot, ends), names.len());
     let start = least(start_at(i_slot, ends), end);
     &names[start..end]
@@ -133,9 +132,10 @@ fn least(a: usize, b: usize) -> usize
 }
 
 // Whether a slot, of so many, is a constant.
-pub fn is_constant(slots: [SlotRecord; MAX_SLOTS], slot_count: usize, i_slot: usize) -> bool
-    ensures { λ r. ⌜ r ≡ constantAt (take «slot_count» slots) «i_slot» ⌝ }
+pub fn is_constant(slots: [SlotRecord; MAX_SLOTS], slot_count: usize, slot: Slot) -> bool
+    ensures { λ r. ⌜ r ≡ constantAt (take «slot_count» slots) (slot .0) ⌝ }
 {
+    let i_slot = slot.0 as usize;
     if slot_count <= i_slot {
         return false;
     }
@@ -148,17 +148,16 @@ pub fn is_constant(slots: [SlotRecord; MAX_SLOTS], slot_count: usize, i_slot: us
 }
 
 // The slot of a select, of so many.
-fn slot_at(select: [Slot; MAX_SELECTS], select_count: usize, index: usize) -> usize
-    ensures { λ r. ⌜ r ≡ getD (take «select_count» select) index zeroSlot .0 ⌝ }
+fn slot_at(select: [Slot; MAX_SELECTS], select_count: usize, index: usize) -> Slot
+    ensures { λ r. ⌜ r ≡ getD (take «select_count» select) index zeroSlot ⌝ }
 {
     if select_count <= index {
-        return 0;
+        return Slot(0);
     }
     if MAX_SELECTS <= index {
-        return 0;
+        return Slot(0);
     }
-    let slot = select[index];
-    slot.0 as usize
+    select[index]
 }
 
 // A constant starts set; a variable is set by a scan.

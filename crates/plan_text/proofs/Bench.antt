@@ -1,10 +1,10 @@
--- 01's example, whole, as the definition computes it.
+-- 01's examples, as the definition computes them.
 use mathlib.Core.Path.{_≡_, refl}
 use mathlib.Core.List.{[], _∷_}
 use Rattle.plan.specs.declared.SlotDefinition.the-variants.{Constant}
 use Rattle.plan.specs.declared.Plan.{Plan}
-use Rattle.plan.specs.declared.Index.the-variants.{Aevt}
-use Rattle.plan.specs.declared.Flow.the-variants.{OutOut, InIn}
+use Rattle.plan.specs.declared.Index.the-variants.{Aevt, Avet}
+use Rattle.plan.specs.declared.Flow.the-variants.{OutOut, InOut, InIn}
 use Rattle.plan.specs.Plan.{variableSlot}
 use Rattle.pieces.specs.Ascii.{ascii}
 use Rattle.pieces.specs.Decimal.{digitsWithin, decimal}
@@ -30,3 +30,16 @@ pub text-of-example : textOf example (ascii "machinevalve") (7 ∷ 12 ∷ 12 ∷
     ≡ ascii "let :2 = 7\nfor machine:0, valve:1 in aevt\nfor _ in aevt (entity=valve:1, value=:2)\nyield valve:1"
 unfolding digitsWithin decimal nameOf slotText flowLine scanLine constantLine constantLines scanLines joined selectsText textOf
 text-of-example = refl
+
+-- 01's in-out scan; the labels of avet
+pub in-out-line : scanLine (variableSlot ∷ variableSlot ∷ []) (ascii "machinevalve") (7 ∷ 12 ∷ [])
+    (record { index = Aevt; flow = InOut; entity = record { 0 = 0 }; attribute = record { 0 = 5 }; value = record { 0 = 1 } })
+    ≡ ascii "for valve:1 in aevt (entity=machine:0)\n"
+unfolding digitsWithin decimal nameOf slotText flowLine scanLine
+in-out-line = refl
+
+pub avet-line : scanLine (variableSlot ∷ variableSlot ∷ []) (ascii "machinevalve") (7 ∷ 12 ∷ [])
+    (record { index = Avet; flow = InIn; entity = record { 0 = 0 }; attribute = record { 0 = 5 }; value = record { 0 = 1 } })
+    ≡ ascii "for _ in avet (value=valve:1, entity=machine:0)\n"
+unfolding digitsWithin decimal nameOf slotText flowLine scanLine
+avet-line = refl

@@ -112,6 +112,7 @@ fn write_definition(i_slot: usize, definition: SlotDefinition, at: usize, out: &
     }
 }
 
+// As `let :2 = 7`.
 fn write_constant(i_slot: usize, value: u64, start: usize, out: &mut [u8]) -> usize
     ensures { λ r. ⌜ Written (constantLine «i_slot» (Constant value)) start (now (out .entry)) r (now (out .exit)) ⌝ }
 {

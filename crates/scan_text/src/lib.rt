@@ -44,6 +44,7 @@ pub fn write_scan(
     }
 }
 
+// As `for machine:0, valve:1 in aevt`.
 fn write_out_out(
     index: Index,
     first: Slot,
@@ -64,6 +65,7 @@ fn write_out_out(
     write(b"\n", at, out)
 }
 
+// As `for valve:1 in aevt (entity=machine:0)`.
 fn write_in_out(
     index: Index,
     first: Slot,
@@ -85,6 +87,7 @@ fn write_in_out(
     write(b")\n", at, out)
 }
 
+// As `for _ in aevt (entity=valve:1, value=:2)`.
 fn write_in_in(
     index: Index,
     first: Slot,
@@ -118,6 +121,7 @@ fn write_index(index: Index, at: usize, out: &mut [u8]) -> usize
     }
 }
 
+// Labels follow index order.
 fn write_first_label(index: Index, at: usize, out: &mut [u8]) -> usize
     ensures { λ r. ⌜ Written (firstLabel index) at (now (out .entry)) r (now (out .exit)) ⌝ }
 {
@@ -165,11 +169,10 @@ fn write_name(
 ) -> usize
     ensures { λ r. ⌜ Written (shownName (constantAt (take (length (now (ends .entry))) slots) (slot .0)) (nameOf (now (names .entry)) (now (ends .entry)) (slot .0))) at (now (out .entry)) r (now (out .exit)) ⌝ }
 {
-    let i_slot = slot.0 as usize;
     // There is an end for each slot.
-    if plan_names::is_constant(slots, ends.len(), i_slot) {
+    if plan_names::is_constant(slots, ends.len(), slot) {
         return at;
     }
-    let name = plan_names::get_name(i_slot, names, ends);
+    let name = plan_names::get_name(slot, names, ends);
     write(name, at, out)
 }

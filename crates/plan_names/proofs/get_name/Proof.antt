@@ -1,5 +1,4 @@
 -- `get_name` meets its contract: the name's place is clipped to the names.
-use mathlib.Core.Path.{_∙_}
 use borrow.Author.Needs.{needs}
 use Rattle.plan_names.specs.Names.{nameOf}
 use Rattle.plan_names.proofs.Names.{part-clipped}
@@ -9,13 +8,14 @@ use Rattle.plan_names.proofs.get_name.Tie as tie
 name : tie.Need-returns
 unfolding nameOf
 name c =
-    let a = c .before .before .before .before .before .before .before .args in
+    let a = c .before .before .before .before .before .before .before .before .args in
     rw (c .before .least2 .ensures, c .before .before .start-at .ensures, c .before .before .before .least .ensures, c .before .before .before .before .end-at .ensures) (part-clipped _ _ (a .names .now))
 
 pub get-name-spec : {M : Type 1} → statement M
 get-name-spec =
     tie.close
     (tie.spec
+    (λ c. search needs)
     (λ c κs. search needs)
     (λ c κs. search needs)
     (λ c κs. search needs)

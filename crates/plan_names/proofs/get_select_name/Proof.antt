@@ -1,6 +1,7 @@
 -- `get_select_name` meets its contract: no bytes where it is refused, else the name of the select's slot.
 use mathlib.Core.Path.{sym, ap, _∙_}
 use borrow.Author.Needs.{needs}
+use Rattle.plan.specs.declared.Slot.{Slot}
 use Rattle.plan_names.specs.Names.{nameOf, selectNameOf}
 use Rattle.plan_names.proofs.get_select_name.Statement.{statement}
 use Rattle.plan_names.proofs.get_select_name.Tie as tie
@@ -13,7 +14,7 @@ named : tie.Need-returns-2
 unfolding selectNameOf
 named c =
     let a = c .before .before .before .before .before .before .before .before .args in
-    c .get-name .ensures ∙ ap (nameOf (a .names .now) (a .ends .now)) (c .before .slot-at .ensures) ∙ simp (sym (c .before .before .before .before .before .check-select-name .ensures) ∙ c .before .before .before .enum-told2 .given .1)
+    c .get-name .ensures ∙ ap (λ (k : Slot). nameOf (a .names .now) (a .ends .now) (k .0)) (c .before .slot-at .ensures) ∙ simp (sym (c .before .before .before .before .before .check-select-name .ensures) ∙ c .before .before .before .enum-told2 .given .1)
 
 pub get-select-name-spec : {M : Type 1} → statement M
 get-select-name-spec =

@@ -1,5 +1,5 @@
 -- `is_constant` meets its contract: past the slots there is none.
-use mathlib.Core.Path.{_≡_, sym, ap, _∙_}
+use mathlib.Core.Path.{_≡_, sym}
 use native.Mathlib.Omega.{arith}
 use borrow.Author.Needs.{needs}
 use lib.ListN.{length}
@@ -14,9 +14,10 @@ pub is-constant-spec : {M : Type 1} → statement M
 is-constant-spec =
     tie.close
     (tie.spec
-    (λ c. let a = c .before .args in sym (rw (none-past (a .t1) (a .slot-count) (a .i-slot) variableSlot (omega arith))))
-    (λ c. let a = c .before .before .args in let h : length (a .t1) ≡ maxSlots = search needs in sym (rw (none-past (a .t1) (a .slot-count) (a .i-slot) variableSlot (omega arith))))
+    (λ c. search needs)
+    (λ c. let a = c .before .before .args in sym (rw (none-past (a .t1) (a .slot-count) (a .slot .0) variableSlot (omega arith))))
+    (λ c. let a = c .before .before .before .args in let h : length (a .t1) ≡ maxSlots = search needs in sym (rw (none-past (a .t1) (a .slot-count) (a .slot .0) variableSlot (omega arith))))
     (λ c. search needs)
     (λ c. search needs)
     (λ c κs. search needs)
-    (λ c. let a = c .before .before .before .before .args in rw (getD-take (a .slot-count) (a .t1) (a .i-slot) variableSlot (c .before .before .before .if1 .left)) (c .is-constant-definition .ensures)))
+    (λ c. let a = c .before .before .before .before .before .args in rw (getD-take (a .slot-count) (a .t1) (a .slot .0) variableSlot (c .before .before .before .if1 .left)) (c .is-constant-definition .ensures)))

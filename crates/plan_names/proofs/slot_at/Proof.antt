@@ -1,5 +1,5 @@
 -- `slot_at` meets its contract: past the selects there is none.
-use mathlib.Core.Path.{_≡_, sym, ap, _∙_}
+use mathlib.Core.Path.{_≡_, sym}
 use native.Mathlib.Omega.{arith}
 use borrow.Author.Needs.{needs}
 use lib.ListN.{length}
@@ -14,9 +14,8 @@ pub slot-at-spec : {M : Type 1} → statement M
 slot-at-spec =
     tie.close
     (tie.spec
-    (λ c. let a = c .before .args in sym (rw (none-past (a .t1) (a .select-count) (a .index) zeroSlot (omega arith))))
-    (λ c. let a = c .before .before .args in let h : length (a .t1) ≡ maxSelects = search needs in sym (rw (none-past (a .t1) (a .select-count) (a .index) zeroSlot (omega arith))))
+    (λ c. let a = c .before .args in sym (none-past (a .t1) (a .select-count) (a .index) zeroSlot (omega arith)))
+    (λ c. let a = c .before .before .args in let h : length (a .t1) ≡ maxSelects = search needs in sym (none-past (a .t1) (a .select-count) (a .index) zeroSlot (omega arith)))
     (λ c. search needs)
     (λ c. search needs)
-    (λ c. search needs)
-    (λ c. let a = c .before .before .before .before .args in rw (getD-take (a .select-count) (a .t1) (a .index) zeroSlot (c .before .before .before .if1 .left))))
+    (λ c. let a = c .before .before .before .args in sym (getD-take (a .select-count) (a .t1) (a .index) zeroSlot (c .before .before .if1 .left))))

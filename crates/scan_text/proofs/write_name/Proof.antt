@@ -10,7 +10,6 @@ pub write-name-spec : {M : Type 1} → statement M
 write-name-spec =
     tie.close
     (tie.spec
-    (λ c. search needs)
     (λ c κs. search needs)
     (λ c. rw (sym (c .before .is-constant .ensures) ∙ c .if1 .taken) (written-none (omega arith) (omega arith)))
     (λ c κs. search needs)

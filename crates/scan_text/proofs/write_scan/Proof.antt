@@ -1,5 +1,4 @@
 -- `write_scan` meets its contract, flow by flow.
-use mathlib.Core.Path.{sym, _∙_}
 use borrow.Author.Needs.{needs}
 use Rattle.scan_text.specs.Line.{scanLine}
 use Rattle.scan_text.proofs.write_scan.Statement.{statement}
