@@ -1,48 +1,35 @@
--- The penalty of a scan, as a look back over the earlier scans makes it.
-use mathlib.Core.Path.{_≡_, refl, _∙_, ap}
-use Prim.Native.Nat.{ℕ}
-use mathlib.Core.List.{List, [], _∷_}
-use mathlib.Core.Bool.{Bool, true, false, _||_, or-true, or-false}
+-- What a look back over the earlier scans sees, one scan more at a time.
+use mathlib.Core.Path.{_≡_, refl, ap, _∙_}
+use mathlib.Core.List.{List, [], _∷_, _++_}
+use mathlib.Core.Bool.{Bool, true, false, _||_, or-false}
 use Rattle.plan.specs.declared.Scan.{Scan}
 use Rattle.plan.specs.declared.Index.{Index}
-use Rattle.plan.specs.declared.Index.the-variants.{Aevt, Avet, Eavt}
-use Rattle.cost.specs.Cost.{sameIndex, sameKey, penaltyFor, penaltyOf, indexUsed, keyUsed}
+use Rattle.cost.specs.declared.Seen.{Seen}
+use Rattle.cost.specs.Cost.{sameIndex, sameKey, indexUsed, keyUsed}
+use Rattle.cost.specs.Seen.{seenWith}
 
--- the penalty where the scans seen so far had another key, one of them was over the index or none, and l are still to be seen
-unfoldable pub penaltyFrom : Scan → Bool → List Scan → ℕ
-penaltyFrom s used l = penaltyFor (s .index) (keyUsed s l) (used || indexUsed (s .index) l)
+abbrev pub seenOf : Scan → List Scan → Seen
+seenOf s l = record { «is_key» = keyUsed s l; «is_index» = indexUsed (s .index) l }
 
-pub penalty-start : (s : Scan) (l : List Scan) → penaltyOf l s ≡ penaltyFrom s false l
-unfolding penaltyFrom
-penalty-start s l = refl
+or-assoc : (a b c : Bool) → (a || (b || c)) ≡ ((a || b) || c)
+or-assoc true b c = refl
+or-assoc false b c = refl
 
--- where the key was used it does not matter whether the index was
-key-decides : (x : Index) (t : Bool) → penaltyFor x true t ≡ penaltyFor x true true
-key-decides Aevt t = refl
-key-decides Avet t = refl
-key-decides Eavt t = refl
+key-more : (s : Scan) (l : List Scan) (b : Scan) → keyUsed s (l ++ (b ∷ [])) ≡ (keyUsed s l || sameKey s b)
+unfolding keyUsed
+key-more s [] b = or-false (sameKey s b)
+key-more s (a ∷ l) b = ap (λ (t : Bool). sameKey s a || t) (key-more s l b) ∙ or-assoc (sameKey s a) (keyUsed s l) (sameKey s b)
 
-module _ (s b : Scan) (used : Bool) (l : List Scan) where
-  -- an earlier scan with the key
-  pub penalty-key : sameKey s b ≡ true → penaltyFrom s used (b ∷ l) ≡ penaltyFor (s .index) true true
-  unfolding penaltyFrom keyUsed
-  penalty-key e = ap (λ (t : Bool). penaltyFor (s .index) (t || keyUsed s l) (used || indexUsed (s .index) (b ∷ l))) e ∙ key-decides (s .index) (used || indexUsed (s .index) (b ∷ l))
+index-more : (x : Index) (l : List Scan) (b : Scan) → indexUsed x (l ++ (b ∷ [])) ≡ (indexUsed x l || sameIndex x (b .index))
+unfolding indexUsed
+index-more x [] b = or-false (sameIndex x (b .index))
+index-more x (a ∷ l) b = ap (λ (t : Bool). sameIndex x (a .index) || t) (index-more x l b) ∙ or-assoc (sameIndex x (a .index)) (indexUsed x l) (sameIndex x (b .index))
 
-  -- one over the index, with another key
-  pub penalty-index : sameKey s b ≡ false → sameIndex (s .index) (b .index) ≡ true → penaltyFrom s used (b ∷ l) ≡ penaltyFrom s true l
-  unfolding penaltyFrom keyUsed indexUsed
-  penalty-index e i =
-      ap (λ (t : Bool). penaltyFor (s .index) (t || keyUsed s l) (used || (sameIndex (s .index) (b .index) || indexUsed (s .index) l))) e ∙
-      ap (λ (t : Bool). penaltyFor (s .index) (keyUsed s l) (used || (t || indexUsed (s .index) l))) i ∙ ap (penaltyFor (s .index) (keyUsed s l)) (or-true used)
+-- none
+pub seen-none : (s : Scan) → record { «is_key» = false; «is_index» = false } ≡ seenOf s []
+unfolding keyUsed indexUsed
+seen-none s = refl
 
-  -- one over another index
-  pub penalty-other : sameKey s b ≡ false → sameIndex (s .index) (b .index) ≡ false → penaltyFrom s used (b ∷ l) ≡ penaltyFrom s used l
-  unfolding penaltyFrom keyUsed indexUsed
-  penalty-other e i =
-      ap (λ (t : Bool). penaltyFor (s .index) (t || keyUsed s l) (used || (sameIndex (s .index) (b .index) || indexUsed (s .index) l))) e ∙
-      ap (λ (t : Bool). penaltyFor (s .index) (keyUsed s l) (used || (t || indexUsed (s .index) l))) i
-
--- none left
-pub penalty-end : (s : Scan) (used : Bool) → penaltyFrom s used [] ≡ penaltyFor (s .index) false used
-unfolding penaltyFrom keyUsed indexUsed
-penalty-end s used = ap (penaltyFor (s .index) false) (or-false used)
+-- one more
+pub seen-more : (s : Scan) (l : List Scan) (b : Scan) → seenWith (seenOf s l) s b ≡ seenOf s (l ++ (b ∷ []))
+seen-more s l b = rw (key-more s l b, index-more (s .index) l b)

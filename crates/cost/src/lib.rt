@@ -17,9 +17,11 @@ use refusal::refuse;
 ghost use mathlib.Core.Path.{_≡_};
 ghost use Prim.Native.Nat.{_≤_, _<_};
 ghost use mathlib.Core.List.{[]};
+ghost use mathlib.Core.Bool.{_||_};
 ghost use lib.ListN.{take};
 ghost use Rattle.capacity.specs.Capacity.{maxScans};
-ghost use Rattle.cost.specs.Cost.{sameIndex, sameKey, penaltyFor, penaltyOf, itersOf, weighedFrom, costOf};
+ghost use Rattle.cost.specs.Cost.{sameIndex, sameKey, penaltyFor, itersOf, weighedFrom, costOf};
+ghost use Rattle.cost.specs.Seen.{seenWith};
 
 // The answer of `cost`: 0 where it is refused.
 pub struct Costed {
@@ -61,9 +63,20 @@ fn weigh_scans(scans: [Scan; MAX_SCANS], scan_count: usize) -> Costed
     while 0 < left {
         let i_scan = left - 1;
         let scan = scans[i_scan];
+        let mut seen = Seen {
+            is_key: false,
+            is_index: false,
+        };
+        let mut i = 0;
+        while i < i_scan {
+            let earlier = scans[i];
+            let more = with_earlier(seen, scan, earlier);
+            seen = more;
+            i += 1;
+        }
         let flow = scan.flow;
         let index = scan.index;
-        let penalty = locality_penalty(scans, i_scan, scan);
+        let penalty = locality_penalty(index, seen.is_key, seen.is_index);
         let steps = iters(flow, index);
         let room = (LARGEST - penalty) / steps;
         if room < cost {
@@ -79,32 +92,33 @@ fn weigh_scans(scans: [Scan; MAX_SCANS], scan_count: usize) -> Costed
     }
 }
 
-// For every scan, estimate a locality penalty. If the scan is over an index that we've used before (in an earlier scan), then
-// at least the root of the tree will still be cached, so the scan is cheaper than when this is the first time we use that
-// index. Furthermore, if we use the same part of the index (e.g. an eavt scan for the same entity that an earlier scan used),
-// then locality is even better, so we reduce the penalty further.
-fn locality_penalty(scans: [Scan; MAX_SCANS], i_scan: usize, scan: Scan) -> u64
-    requires { ⌜ «i_scan» ≤ maxScans ⌝ }
-    ensures { λ r. ⌜ r ≡ penaltyOf (take «i_scan» scans) scan ⌝ }
-{
-    let index = scan.index;
-    let mut is_index_used = false;
-    let mut i = 0;
-    while i < i_scan {
-        let earlier = scans[i];
-        if same_key(scan, earlier) {
-            return penalty_for(index, true, true);
-        }
-        let used = earlier.index;
-        if same_index(index, used) {
-            is_index_used = true;
-        }
-        i += 1;
-    }
-    penalty_for(index, false, is_index_used)
+// What earlier scans used of a scan's index: the same part of it, and any.
+struct Seen {
+    is_key: bool,
+    is_index: bool,
 }
 
-fn penalty_for(index: Index, is_key_used: bool, is_index_used: bool) -> u64
+// The same, with one more.
+fn with_earlier(seen: Seen, scan: Scan, earlier: Scan) -> Seen
+    ensures { λ r. ⌜ r ≡ seenWith seen scan earlier ⌝ }
+{
+    let index = scan.index;
+    let used = earlier.index;
+    let is_key = either(seen.is_key, same_key(scan, earlier));
+    let is_index = either(seen.is_index, same_index(index, used));
+    Seen { is_key, is_index }
+}
+
+fn either(a: bool, b: bool) -> bool
+    ensures { λ r. ⌜ r ≡ (a || b) ⌝ }
+{
+    if a {
+        return true;
+    }
+    b
+}
+
+fn locality_penalty(index: Index, is_key_used: bool, is_index_used: bool) -> u64
     ensures { λ r. ⌜ r ≡ penaltyFor index «is_key_used» «is_index_used» ⌝ }
 {
     match index {

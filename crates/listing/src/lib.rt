@@ -14,7 +14,7 @@ use plan::Plan;
 use plan::Scan;
 use refusal::Verdict;
 ghost use mathlib.Core.Path.{_≡_};
-ghost use Prim.Native.Nat.{_≤_};
+ghost use Prim.Native.Nat.{_≤_, min};
 ghost use Rattle.capacity.specs.Capacity.{maxScans};
 ghost use Rattle.listing.specs.Next.{nextIndex, isNewIndex, nextScan, nextOfScans, nextOf};
 
@@ -68,10 +68,17 @@ pub fn next(plan: Plan) -> NextPlan
 pub fn next_scans(scans: [Scan; MAX_SCANS], scan_count: usize) -> NextScans
     ensures { λ r. ⌜ r ≡ nextOfScans scans «scan_count» ⌝ }
 {
-    if MAX_SCANS < scan_count {
-        return advance_scans(scans, MAX_SCANS);
+    let count = within(scan_count);
+    advance_scans(scans, count)
+}
+
+fn within(count: usize) -> usize
+    ensures { λ r. ⌜ r ≡ min count maxScans ⌝ }
+{
+    if MAX_SCANS < count {
+        return MAX_SCANS;
     }
-    advance_scans(scans, scan_count)
+    count
 }
 
 fn advance_scans(scans: [Scan; MAX_SCANS], scan_count: usize) -> NextScans

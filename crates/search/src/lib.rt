@@ -31,7 +31,7 @@ ghost use Rattle.orders.specs.Lists.{swapped, upTo};
 ghost use Rattle.planner.specs.Planning.{planOf};
 ghost use Rattle.listing.specs.Listing.{combinations};
 ghost use Rattle.search.specs.Search.{arranged, weighed, candidatesOf, candidates, orders, notFound, searchOf};
-ghost use Rattle.search.specs.Best.{none, isBetter, better, bestFrom, arrangedQuery, chosen, Searchable, Orders, Plans};
+ghost use Rattle.search.specs.Best.{none, isBetter, bestFrom, arrangedQuery, chosen, Searchable, Orders, Plans};
 
 // The answer of the search: the order as statement numbers, zeros past the last, the plan and its cost; all zeros where it is
 // refused.
@@ -259,14 +259,15 @@ fn weigh_plans(
     let mut scans = scans;
     loop {
         let costed = cost::cost_of_scans(scans, count);
-        let candidate = Best {
-            is_some: true,
-            order,
-            scans,
-            cost: costed.cost,
-        };
-        let after = better_of(best, candidate);
-        best = after;
+        let cost = costed.cost;
+        if is_better(best.is_some, best.cost, cost) {
+            best = Best {
+                is_some: true,
+                order,
+                scans,
+                cost,
+            };
+        }
         let next = listing::next_scans(scans, count);
         let advanced = next.scans;
         scans = advanced;
@@ -276,16 +277,7 @@ fn weigh_plans(
     }
 }
 
-// The one of less cost, where the other is there.
-fn better_of(best: Best, candidate: Best) -> Best
-    ensures { λ r. ⌜ r ≡ better best candidate ⌝ }
-{
-    if is_better(best.is_some, best.cost, candidate.cost) {
-        return candidate;
-    }
-    best
-}
-
+// Whether a plan of this cost takes the place of the best so far, if there is one.
 fn is_better(is_some: bool, least: u64, cost: u64) -> bool
     ensures { λ r. ⌜ r ≡ isBetter «is_some» least cost ⌝ }
 {

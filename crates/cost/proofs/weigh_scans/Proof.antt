@@ -2,18 +2,29 @@
 use mathlib.Core.Path.{_≡_, _∙_}
 use Prim.Native.Nat.{_≤_, _<_, _-_, _+_, _*_, _^_}
 use native.Mathlib.Omega.{arith}
+use mathlib.Core.List.{[], _∷_, _++_}
+use native.Mathlib.Numerals.{add-one}
 use borrow.Author.Needs.{needs}
 use borrow.Author.Tests.{le-leb, lt-leb}
-use lib.ListN.{length, getD}
+use lib.ListN.{length, getD, take}
+use lib.Seq.{take-suc}
 use lib.Dec.{leb}
 use Rattle.capacity.specs.Capacity.{maxScans}
 use Rattle.refusal.specs.declared.Verdict.the-variants.{Fine}
 use Rattle.refusal.specs.Verdict.{refuseIf}
 use Rattle.plan.specs.Plan.{zeroScan}
-use Rattle.cost.specs.Cost.{weighedFrom}
+use Rattle.cost.specs.Cost.{penaltyOf, weighedFrom}
+use Rattle.cost.proofs.Penalty.{seenOf, seen-none, seen-more}
 use Rattle.cost.proofs.Weight.{room-fits, room-over, iters-some, weightAt, faultAt, weight-end, fault-end, weight-step, fault-step, fault-front}
 use Rattle.cost.proofs.weigh_scans.Statement.{statement}
 use Rattle.cost.proofs.weigh_scans.Tie as tie
+
+-- the look back: what the first i scans used
+abbrev Seeing : tie.InvT-loop2
+Seeing k scans cost left last scan seen₀ i₀ seen i = (i ≤ last) × (seen ≡ seenOf scan (take i scans))
+
+abbrev ν : tie.MeasureT-loop2
+ν k scans cost left last scan seen₀ i₀ seen i = last - i
 
 abbrev Inv : tie.InvT-loop
 Inv k scans cost₀ left₀ cost left = (left ≤ k) × (weightAt scans k left ≡ cost) × (faultAt scans k left ≡ Fine)
@@ -21,70 +32,87 @@ Inv k scans cost₀ left₀ cost left = (left ≤ k) × (weightAt scans k left �
 abbrev μ : tie.MeasureT-loop
 μ k scans cost₀ left₀ cost left = left
 
-start : tie.Need-loop-holds Inv μ
+start : tie.Need-loop-holds Seeing ν Inv μ
 start c =
     let a = c .args in
     let h : length (a .t1) ≡ maxScans = search needs in
     (omega arith, weight-end (a .t1) (a .scan-count) (omega arith), fault-end (a .t1) (a .scan-count) (omega arith))
 
--- the weight from the scan at hand on
-next : (c : tie.After-iters Inv μ) →
-    let b = c .before .before .before in let a = b .before .before .args in
-    weightAt (a .t1) (a .scan-count) (b .before .loop .left - 1) ≡ c .before .locality-penalty .result + c .iters .result * b .before .loop .cost
-next c =
-    let b = c .before .before .before in
-    let a = b .before .before .args in
-    let left = b .before .loop .left in
-    let h : length (a .t1) ≡ maxScans = search needs in
-    let e : left - 1 + 1 ≡ left = omega arith in
-    weight-step (a .t1) (a .scan-count) (omega arith) (left - 1) (omega arith) ∙
-    rw (e, b .before .loop .inv .1, ← (c .before .locality-penalty .ensures), ← (c .iters .ensures))
+sees : tie.Need-loop2-holds Seeing ν Inv μ
+sees c = (omega arith, seen-none _)
 
-some : (c : tie.After-iters Inv μ) → 0 < c .iters .result
+sees-on : tie.Need-loop2-again Seeing ν Inv μ
+sees-on c =
+    let two = c .before .before .before .loop2 in
+    let a = c .before .before .before .before .before .before .before .args in
+    let h : length (a .t1) ≡ maxScans = search needs in
+    let t : take (two .i + 1) (a .t1) ≡ take (two .i) (a .t1) ++ (getD (a .t1) (two .i) zeroScan ∷ []) = rw add-one (take-suc (a .t1) (two .i) zeroScan (omega arith)) in
+    (omega arith, c .with-earlier .ensures ∙ rw (two .inv .1, t) (seen-more _ _ _))
+
+-- the penalty of the scan at hand
+penalty : (c : tie.After-iters Seeing ν Inv μ) →
+    let l = c .before .before .before .before .before .before .loop in let a = c .before .before .before .before .before .before .before .args in
+    c .before .locality-penalty .result ≡ penaltyOf (take (l .left - 1) (a .t1)) (getD (a .t1) (l .left - 1) zeroScan)
+penalty c =
+    let two = c .before .before .before .loop2 in
+    let l = c .before .before .before .before .before .before .loop in
+    let e : two .i ≡ l .left - 1 = omega (arith, two .inv .0, c .before .before .loop2-test .left) in
+    c .before .locality-penalty .ensures ∙ rw (two .inv .1, e)
+
+-- the weight from the scan at hand on
+next : (c : tie.After-iters Seeing ν Inv μ) →
+    let l = c .before .before .before .before .before .before .loop in let a = c .before .before .before .before .before .before .before .args in
+    weightAt (a .t1) (a .scan-count) (l .left - 1) ≡ c .before .locality-penalty .result + c .iters .result * l .cost
+next c =
+    let l = c .before .before .before .before .before .before .loop in
+    let a = c .before .before .before .before .before .before .before .args in
+    let h : length (a .t1) ≡ maxScans = search needs in
+    let e : l .left - 1 + 1 ≡ l .left = omega arith in
+    weight-step (a .t1) (a .scan-count) (omega arith) (l .left - 1) (omega arith) ∙ rw (e, l .inv .1, ← (penalty c), ← (c .iters .ensures))
+
+some : (c : tie.After-iters Seeing ν Inv μ) → 0 < c .iters .result
 some c =
-    let b = c .before .before .before in
-    let s = getD (b .before .before .args .t1) (b .before .loop .left - 1) zeroScan in
+    let l = c .before .before .before .before .before .before .loop in
+    let a = c .before .before .before .before .before .before .before .args in
+    let s = getD (a .t1) (l .left - 1) zeroScan in
     rw (c .iters .ensures) (iters-some (s .flow) (s .index))
 
 -- whether it passes at the scan at hand
-fault : (c : tie.After-iters Inv μ) →
-    let b = c .before .before .before in let a = b .before .before .args in let left = b .before .loop .left in
-    faultAt (a .t1) (a .scan-count) (left - 1) ≡
-    refuseIf (leb (2 ^ 64) (c .before .locality-penalty .result + c .iters .result * b .before .loop .cost)) 27 (left - 1)
+fault : (c : tie.After-iters Seeing ν Inv μ) →
+    let l = c .before .before .before .before .before .before .loop in let a = c .before .before .before .before .before .before .before .args in
+    faultAt (a .t1) (a .scan-count) (l .left - 1) ≡ refuseIf (leb (2 ^ 64) (c .before .locality-penalty .result + c .iters .result * l .cost)) 27 (l .left - 1)
 fault c =
-    let b = c .before .before .before in
-    let a = b .before .before .args in
-    let left = b .before .loop .left in
+    let l = c .before .before .before .before .before .before .loop in
+    let a = c .before .before .before .before .before .before .before .args in
     let h : length (a .t1) ≡ maxScans = search needs in
-    let e : left - 1 + 1 ≡ left = omega arith in
-    fault-step (a .t1) (a .scan-count) (omega arith) (left - 1) (omega arith) (rw e (b .before .loop .inv .2)) ∙ rw (next c)
+    let e : l .left - 1 + 1 ≡ l .left = omega arith in
+    fault-step (a .t1) (a .scan-count) (omega arith) (l .left - 1) (omega arith) (rw e (l .inv .2)) ∙ rw (next c)
 
-over : tie.Need-returns Inv μ
+over : tie.Need-returns Seeing ν Inv μ
 unfolding weighedFrom
 over c =
     let d = c .before .before in
-    let b = d .before .before .before in
-    let a = b .before .before .args in
+    let w = d .before .before .before .before .before .before .loop in
+    let a = d .before .before .before .before .before .before .before .args in
     let p = d .before .locality-penalty .result in
     let t = d .iters .result in
-    let n = b .before .loop .cost in
     let l : length (a .t1) ≡ maxScans = search needs in
-    let h : 2 ^ 64 ≤ p + t * n = omega (arith, room-over (2 ^ 64 - 1) p t n (some d) (omega arith) (c .before .if1 .taken)) in
-    let e = fault-front (a .t1) (a .scan-count) (omega arith) _ (b .before .loop .left - 1) (omega arith) (rw (le-leb _ _ h) at (fault d)) in
+    let h : 2 ^ 64 ≤ p + t * w .cost = omega (arith, room-over (2 ^ 64 - 1) p t (w .cost) (some d) (omega arith) (c .before .if1 .taken)) in
+    let e = fault-front (a .t1) (a .scan-count) (omega arith) _ (w .left - 1) (omega arith) (rw (le-leb _ _ h) at (fault d)) in
     rw (c .refuse .ensures, e)
 
 -- where there is room, the sum fits
-room : (c : tie.Else1 Inv μ) →
-    let d = c .before in let b = d .before .before .before in d .before .locality-penalty .result + d .iters .result * b .before .loop .cost < 2 ^ 64
+room : (c : tie.Else1 Seeing ν Inv μ) →
+    let d = c .before in d .before .locality-penalty .result + d .iters .result * d .before .before .before .before .before .before .loop .cost < 2 ^ 64
 room c =
     let d = c .before in
     let p = d .before .locality-penalty .result in
-    omega (arith, room-fits (2 ^ 64 - 1) p (d .iters .result) (d .before .before .before .before .loop .cost) (some d) (omega arith) (c .if1 .left))
+    omega (arith, room-fits (2 ^ 64 - 1) p (d .iters .result) (d .before .before .before .before .before .before .loop .cost) (some d) (omega arith) (c .if1 .left))
 
-again : tie.Need-loop-again Inv μ
+again : tie.Need-loop-again Seeing ν Inv μ
 again c = (omega arith, next (c .before), fault (c .before) ∙ rw (lt-leb _ _ (room c)))
 
-done : tie.Need-returns-2 Inv μ
+done : tie.Need-returns-2 Seeing ν Inv μ
 unfolding weighedFrom
 done c =
     let e : c .before .loop .left ≡ 0 = omega arith in
@@ -95,12 +123,21 @@ pub weigh-scans-spec : {M : Type 1} → statement M
 weigh-scans-spec =
     tie.close
     (tie.spec
+    Seeing
+    ν
     Inv
     μ
     start
     (λ c. search needs)
     (λ c. search needs)
     (λ c. search needs)
+    sees
+    (λ c. search needs)
+    (λ c. search needs)
+    (λ c κs. search needs)
+    (λ c. search needs)
+    (λ c. search needs)
+    sees-on
     (λ c κs. search needs)
     (λ c κs. search needs)
     (λ c. search needs)

@@ -1,11 +1,13 @@
 -- `weigh_plans` meets its contract: what is still to be weighed gives the answer of the whole.
 use mathlib.Core.Path.{_≡_, sym, ap, _∙_}
+use mathlib.Core.Logic.{⊎-elim}
 use mathlib.Core.Bool.{true, false}
 use borrow.Author.Needs.{needs}
 use borrow.Author.Tests.{not-true, not-false}
 use lib.ListN.{take}
 use Rattle.listing.specs.declared.NextScans.{NextScans}
 use Rattle.listing.specs.Next.{isNewScans}
+use Rattle.search.specs.Best.{better}
 use Rattle.search.proofs.Through.{plansLeft, Through, through-start, through-end, through-again, through-less}
 use Rattle.search.proofs.weigh_plans.Statement.{statement}
 use Rattle.search.proofs.weigh_plans.Tie as tie
@@ -19,36 +21,38 @@ abbrev μ : tie.MeasureT-loop
 start : tie.Need-loop-holds Inv μ
 start c = through-start _ _ _ _ (c .pre .1)
 
+-- what is kept is the better of the two
+keeps : (c : tie.Joined1 Inv μ) →
+    let k = c .before .before in let l = k .before .loop in let a = k .before .before .args in
+    c .if1 .best ≡ better (l .best) (record { «is_some» = true; order = a .order; scans = l .scans; cost = k .cost-of-scans .result .cost })
+keeps c =
+    let e = sym (c .before .is-better .ensures) in
+    ⊎-elim (λ w. rw (w .1, e ∙ w .0 .taken)) (λ w. rw (w .1, e ∙ w .0 .left)) (c .if1 .came)
+
 done : tie.Need-returns Inv μ
 done c =
     let n = c .before .before .before in
-    let b = n .before in
-    let l = b .before .before .loop in
-    let new : isNewScans (take (b .before .before .before .args .count) (l .scans)) ≡ false =
-    sym (ap (λ (r : NextScans). r .«is_new») (n .next-scans .ensures)) ∙ not-true _ (c .if1 .taken) in
-    through-end _ _ _ _ _ _ (b .before .before .before .pre .0) (l .inv) _ (b .before .cost-of-scans .ensures) _ (b .better-of .ensures) new
+    let k = n .before .before .before in
+    let new : isNewScans (take (k .before .before .args .count) (k .before .loop .scans)) ≡ false =
+    sym (ap (λ (r : NextScans). r .«is_new») (n .next-scans .ensures)) ∙ not-true _ (c .if2 .taken) in
+    through-end _ _ _ _ _ _ (k .before .before .pre .0) (k .before .loop .inv) _ (k .cost-of-scans .ensures) _ (keeps (n .before)) new
 
-new : (c : tie.Else1 Inv μ) →
-    let n = c .before .before .before in let b = n .before .before .before in
-    isNewScans (take (b .before .args .count) (b .loop .scans)) ≡ true
-new c =
-    let n = c .before .before .before in
-    sym (ap (λ (r : NextScans). r .«is_new») (n .next-scans .ensures)) ∙ not-false _ (c .if1 .left)
+new : (c : tie.Else2 Inv μ) →
+    let k = c .before .before .before .before .before .before in isNewScans (take (k .before .before .args .count) (k .before .loop .scans)) ≡ true
+new c = sym (ap (λ (r : NextScans). r .«is_new») (c .before .before .before .next-scans .ensures)) ∙ not-false _ (c .if2 .left)
 
 less : tie.Need-loop-less Inv μ
 less c =
     let n = c .before .before .before in
-    let b = n .before in
-    let l = b .before .before .loop in
-    through-less _ _ _ _ _ _ (b .before .before .before .pre .0) (l .inv) _ (b .before .cost-of-scans .ensures) _ (b .better-of .ensures) (new c) _
+    let k = n .before .before .before in
+    through-less _ _ _ _ _ _ (k .before .before .pre .0) (k .before .loop .inv) _ (k .cost-of-scans .ensures) _ (keeps (n .before)) (new c) _
     (ap (λ (r : NextScans). r .scans) (n .next-scans .ensures))
 
 again : tie.Need-loop-again Inv μ
 again c =
     let n = c .before .before .before in
-    let b = n .before in
-    let l = b .before .before .loop in
-    through-again _ _ _ _ _ _ (b .before .before .before .pre .0) (l .inv) _ (b .before .cost-of-scans .ensures) _ (b .better-of .ensures) (new c) _
+    let k = n .before .before .before in
+    through-again _ _ _ _ _ _ (k .before .before .pre .0) (k .before .loop .inv) _ (k .cost-of-scans .ensures) _ (keeps (n .before)) (new c) _
     (ap (λ (r : NextScans). r .scans) (n .next-scans .ensures))
 
 pub weigh-plans-spec : {M : Type 1} → statement M
