@@ -6,10 +6,12 @@ mod plan;
 
 mod plan_cases;
 mod datom;
+mod held;
 mod random;
 mod rust_plan;
 
-use plan_cases::{case, check, damaged, e, in_order, numbers, out_out, sound, text, Case, Verdict, SCANS, SELECTS, SLOTS};
+use held::Held;
+use plan_cases::{case, check, damaged, drawn, e, in_order, numbers, out_out, sound, text, Case, Verdict, SCANS, SELECTS, SLOTS};
 use random::Random;
 use rust_plan::rust_plan;
 
@@ -135,6 +137,14 @@ fn cases() -> Vec<Case> {
 
 fn main() {
     std::panic::set_hook(Box::new(|_| {}));
+    if let Some((mut random, count)) = held::asked() {
+        let mut held = Held::new("plans");
+        for _ in 0..count {
+            let case = drawn(&mut random);
+            held.add(numbers(&case) + "\n", answer(&case) + "\n");
+        }
+        return held.end(count);
+    }
     let answers = std::env::args().nth(1) == Some("answers".to_string());
     for case in &cases() {
         println!("{}", if answers { answer(case) } else { numbers(case) });

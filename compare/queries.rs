@@ -7,11 +7,13 @@ mod plan;
 mod planner;
 
 mod datom;
+mod held;
 mod plan_line;
 mod query;
 mod query_cases;
 mod random;
 
+use held::Held;
 use plan::{Index, Plan};
 use plan_line::plan_text;
 use planner::Planner;
@@ -19,7 +21,7 @@ use query_cases::{case, chain, numbers, refusal, Case};
 use random::Random;
 
 // The plans of a query are listed up to this many.
-const LISTED: usize = 60;
+const LISTED: usize = 500;
 
 fn index_text(plan: &Plan) -> String {
     plan.scans
@@ -97,7 +99,25 @@ fn all_cases() -> Vec<Case> {
     all
 }
 
+// The plans that an answer lists.
+fn plans_of(answer: &str) -> usize {
+    match answer.find("; plans") {
+        Some(at) => answer[at + 7..].replace("left out", "left-out").split(" again ").next().unwrap().replace(" ..", "").split_whitespace().count() / 2,
+        None => 0,
+    }
+}
+
 fn main() {
+    if let Some((mut random, count)) = held::asked() {
+        let mut held = Held::new("queries");
+        for _ in 0..count {
+            let case = query_cases::drawn(&mut random);
+            let answer = answer(&case);
+            held.count("plans listed", plans_of(&answer));
+            held.add(numbers(&case) + "\n", answer + "\n");
+        }
+        return held.end(count);
+    }
     let answers = std::env::args().nth(1) == Some("answers".to_string());
     for case in &all_cases() {
         println!("{}", if answers { answer(case) } else { numbers(case) });
