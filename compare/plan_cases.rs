@@ -193,7 +193,11 @@ fn wild(random: &mut Random) -> Case {
         .map(|_| (random.below(3) as usize, random.below(3) as usize, slot(random), number(random), slot(random)))
         .collect();
     let select = (0..random.below(4)).map(|_| slot(random)).collect();
-    case(scans, slots, select)
+    let mut wild = case(scans, slots, select);
+    if random.below(20) == 0 {
+        wild.scan_count = [SCANS as u64 + 1, u64::max_value()][random.below(2) as usize];
+    }
+    wild
 }
 
 // A plan of any of these kinds, or a sound one of up to 48 scans.

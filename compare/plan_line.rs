@@ -1,6 +1,18 @@
 // A plan of the Rust as a line.
 use plan::{Flow, Index, Plan, SlotDefinition};
 
+// The indexes of its scans, in one word.
+pub fn index_text(plan: &Plan) -> String {
+    plan.scans
+        .iter()
+        .map(|s| match s.index {
+            Index::Aevt => '0',
+            Index::Avet => '1',
+            Index::Eavt => '2',
+        })
+        .collect()
+}
+
 pub fn plan_text(plan: &Plan) -> String {
     let mut out = Vec::new();
     for scan in &plan.scans {

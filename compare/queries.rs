@@ -14,25 +14,14 @@ mod query_cases;
 mod random;
 
 use held::Held;
-use plan::{Index, Plan};
-use plan_line::plan_text;
+use plan::Plan;
+use plan_line::{index_text, plan_text};
 use planner::Planner;
 use query_cases::{case, chain, numbers, refusal, Case};
 use random::Random;
 
 // The plans of a query are listed up to this many.
 const LISTED: usize = 500;
-
-fn index_text(plan: &Plan) -> String {
-    plan.scans
-        .iter()
-        .map(|s| match s.index {
-            Index::Aevt => '0',
-            Index::Avet => '1',
-            Index::Eavt => '2',
-        })
-        .collect()
-}
 
 // The cost, where it fits: 001 wraps.
 fn cost_text(plan: &Plan) -> String {
@@ -99,19 +88,18 @@ fn all_cases() -> Vec<Case> {
     all
 }
 
-// The plans that an answer lists.
+// How many plans an answer lists: each is its indexes and its cost, which may be left out in two words.
 fn plans_of(answer: &str) -> usize {
-    match answer.find("; plans") {
-        Some(at) => answer[at + 7..].replace("left out", "left-out").split(" again ").next().unwrap().replace(" ..", "").split_whitespace().count() / 2,
-        None => 0,
-    }
+    let listing = answer.replace("left out", "left").replace(" ..", "");
+    let plans = listing.split("; plans").nth(1).unwrap_or("").split(" again ").next().unwrap();
+    plans.split_whitespace().count() / 2
 }
 
 fn main() {
     if let Some((mut random, count)) = held::asked() {
         let mut held = Held::new("queries");
         for _ in 0..count {
-            let case = query_cases::drawn(&mut random);
+            let case = if random.below(3) == 0 { query_cases::dense(&mut random) } else { query_cases::drawn(&mut random) };
             let answer = answer(&case);
             held.count("plans listed", plans_of(&answer));
             held.add(numbers(&case) + "\n", answer + "\n");

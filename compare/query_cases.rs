@@ -116,13 +116,19 @@ pub fn chain(n: usize, m: usize) -> Case {
     Case { variables: n as u64 + 1, statements: statements, select: vec![0] }
 }
 
-// A query of up to six statements over few variables, so that most scans are in-in and the plans are many.
-fn dense(random: &mut Random) -> Case {
-    let variables = 2 + random.below(2);
-    let statements = (0..1 + random.below(6))
-        .map(|_| (random.below(variables) as u16, random.below(3), random.below(6) == 0, random.below(variables)))
-        .collect();
-    Case { variables: variables, statements: statements, select: vec![random.below(variables) as u16] }
+// A query that planning takes, of up to six statements over few variables, so that most scans are in-in and the plans are many.
+pub fn dense(random: &mut Random) -> Case {
+    loop {
+        let variables = 2 + random.below(2);
+        let statements = (0..1 + random.below(6))
+            .map(|_| (random.below(variables) as u16, random.below(3), random.below(6) == 0, random.below(variables)))
+            .collect();
+        let select = (0..1 + random.below(2)).map(|_| random.below(variables) as u16).collect();
+        let case = Case { variables: variables, statements: statements, select: select };
+        if refusal(&case).is_none() {
+            return case;
+        }
+    }
 }
 
 // A query of numbers at the ends of what they can be.
@@ -143,7 +149,7 @@ fn wild(random: &mut Random) -> Case {
 // A query around the capacities: each variable is named, and statements, slots and selects are some below, at, or above what fits.
 fn full(random: &mut Random) -> Case {
     let n = STATEMENTS as u64 - 2 + random.below(4);
-    let variables = n - random.below(3);
+    let variables = n + 1 - random.below(3);
     let constants = SLOTS - variables - 2 + random.below(4);
     let statements = (0..n)
         .map(|i| (i as u16 % variables as u16, random.below(4), i < constants, random.below(variables)))
