@@ -74,9 +74,9 @@ impl Held {
         let mut rest = output;
         for &(ref case, ref answer) in &self.batch {
             if !rest.starts_with(&answer[..]) {
-                let lines = answer.lines().count();
-                let got: Vec<&str> = rest.lines().take(lines).collect();
-                println!("{} differs on the case\n{}it wrote\n{}\nand not\n{}", self.program, case, got.join("\n"), answer);
+                let (at, line) = answer.lines().enumerate().find(|&(i, line)| rest.lines().nth(i) != Some(line)).unwrap();
+                let got = rest.lines().nth(at).unwrap_or("nothing");
+                println!("{} differs on the case\n{}at line {} of its answer it wrote\n{}\nand not\n{}", self.program, case, at, got, line);
                 exit(1);
             }
             rest = &rest[answer.len()..];
