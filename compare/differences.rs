@@ -2,6 +2,8 @@
 // run. compare/run SEED COUNT says how it is built.
 #[path = "../target/compare/eval.rs"]
 mod eval;
+#[path = "../target/compare/permutation.rs"]
+mod permutation;
 #[path = "../target/compare/plan.rs"]
 mod plan;
 #[path = "../target/compare/planner.rs"]
@@ -21,6 +23,7 @@ use database::{heap, store, tables, View};
 use datom::Tid;
 use eval::Evaluator;
 use held::written;
+use permutation::Permutations;
 use plan::Plan;
 use plan_cases::{case, e, out_out, Case};
 use plan_line::{index_text, plan_text};
@@ -112,6 +115,7 @@ fn next_of_out_out_eavt() {
     assert_eq!(index_text(planner.get_plan()), "12");
     assert_eq!(plans(&behind), "check refused 21 at 1, cost refused 21 at 1, next refused 21 at 1 02\n");
     assert_eq!(panic_of(&|| rust(&alone).cost()), "Using eavt for out-out is invalid");
+    assert_eq!(panic_of(&|| rust(&alone).scans[0].entity_value_flow()), "Using eavt for out-out is invalid");
 }
 
 // A variable number that is not below the count: it names a constant's slot, or none.
@@ -143,8 +147,29 @@ fn both_on_one_slot() {
     assert_eq!(evaluations(&plan, &[(1, 5, 2)]), refused);
 }
 
+// What 000 plans and 01 refuses, and where it panics.
+fn planned_by_000() {
+    let e0 = (0, 5, false, 1);
+    let refused = vec![
+        (10, query_cases::chain(49, 0)),
+        (11, query_cases::case(97, &[e0], &[0])),
+        (12, query_cases::case(2, &[e0], &[0; 33])),
+        (13, query_cases::case(2, &[e0], &[])),
+        (15, query_cases::case(3, &[e0], &[0])),
+    ];
+    for (number, case) in refused {
+        assert_eq!(Planner::plan(&query_cases::query_of(&case)).scans.len(), case.statements.len());
+        assert!(written("queries", &query_cases::numbers(&case)).starts_with(&format!("refused {} at ", number)));
+    }
+    let many = query_cases::case(65536, &[e0], &[0]);
+    assert_eq!(panic_of(&|| Planner::plan(&query_cases::query_of(&many))), "Can have at most 2^16 slots, slot index is u16.");
+    assert_eq!(written("queries", &query_cases::numbers(&many)), "refused 11 at 0\n");
+}
+
 // The rest: a cost past 2^64 - 1 wraps (01's nine scans, and one more); a plan of no scans and a selected constant's name panic.
 fn the_rest() {
+    assert_eq!(Permutations::new(49).next(), Some((0, 1)));
+    assert_eq!(written("swaps", "0 49 1").lines().last(), Some("none abcdefghijklmnopqrstuvwxyzabcdefghijklmnopqrstuv"));
     let ten = out_out(10);
     let cost: u128 = 20 + 100 * (1050505050505050520 - 20 + 5);
     assert_eq!(rust(&ten).cost(), cost as u64);
@@ -159,12 +184,13 @@ fn the_rest() {
 fn main() {
     // Panics are asked for above: nothing of them is to be seen but their text.
     std::panic::set_hook(Box::new(|_| {}));
-    let all: [(&str, fn()); 6] = [
+    let all: [(&str, fn()); 7] = [
         ("the scan-count test", scan_count),
         ("the largest datom", largest_datom),
         ("next of an out-out eavt scan", next_of_out_out_eavt),
         ("a variable at or above the count", variable_too_high),
         ("both slots of a scan on one slot", both_on_one_slot),
+        ("what 000 plans", planned_by_000),
         ("the rest", the_rest),
     ];
     for &(name, difference) in all.iter() {

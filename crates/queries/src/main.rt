@@ -4,6 +4,7 @@ use libc::STDIN_FILENO;
 use plan::Plan;
 use planner::Planned;
 use query::Query;
+use refusal::Refusal;
 use refusal::Verdict;
 use written::put;
 use written::put_indexes;
@@ -83,12 +84,18 @@ fn planned_of(query: Query) -> Planned {
     planner::plan(query)
 }
 
+// A refusal comes with the plan of nothing, of which there is nothing to write.
+fn put_refused(r: Refusal, plan: Plan) {
+    written::put_refusal(r);
+    written::put_plan(plan);
+}
+
 fn put_answer(query: Query) {
     let planned = planned_of(query);
     let verdict = planned.verdict;
     let plan = planned.plan;
     match verdict {
-        Verdict::Refused(r) => written::put_refusal(r),
+        Verdict::Refused(r) => put_refused(r, plan),
         Verdict::Fine => {
             written::put_plan(plan);
             put(b"; plans");
