@@ -1,10 +1,25 @@
 // Writes cases for crates/evaluations, or the answers to them, by a plain reading of document 01: the refusals in its order, and the
-// rows by nested loops over all rows of a table, each row tested. compare/answers.rs holds rows to 002 itself.
+// rows by nested loops over all rows of a table, each row tested. The rows of drawn cases are held to 002 itself too, which knows
+// neither windows nor refusals.
+#[path = "../target/compare/eval.rs"]
+mod eval;
+#[path = "../target/compare/plan.rs"]
+mod plan;
+
+mod database;
+mod datom;
+mod held;
 mod plan_cases;
 mod random;
+mod rust_plan;
 
+use database::{heap, store, View};
+use datom::Tid;
+use eval::Evaluator;
+use held::Held;
 use plan_cases::{case, check, e, numbers, text, Case, Verdict};
 use random::Random;
+use rust_plan::rust_plan;
 
 const LARGEST: u64 = u64::max_value();
 
@@ -82,15 +97,30 @@ fn refusal(plan: &Case, tables: &Tables) -> Verdict {
     check(plan).or(empty).or(table_fault(tables))
 }
 
+// All rows of a plan over tables, neither of which is refused.
+fn all_rows(plan: &Case, tables: &Tables) -> Vec<Vec<u64>> {
+    let mut out = Vec::new();
+    let mut slots = plan.slots.iter().map(|s| s.1).collect();
+    rows(plan, tables, 0, &mut slots, &mut out);
+    out
+}
+
+// The same by 002.
+fn rows_by_002(plan: &Case, tables: &Tables) -> Vec<Vec<u64>> {
+    let facts: Vec<(u64, u64, u64)> = tables[0].chunks(3).map(|row| fact(0, row)).collect();
+    let view = View::new(&facts, Tid::min());
+    let plan = rust_plan(plan, &[]);
+    let rows = Evaluator::new(&plan, &view).map(|row| row.iter().map(|v| v.0).collect()).collect();
+    rows
+}
+
 fn answer(tables: &Tables, window: &Window) -> String {
     let &Window(ref plan, from, room) = window;
     let mut buffer = vec![HELD; room];
     let verdict = refusal(plan, tables);
     let (mut count, mut more) = (0, false);
     if verdict.is_none() {
-        let mut out = Vec::new();
-        let mut slots = plan.slots.iter().map(|s| s.1).collect();
-        rows(plan, tables, 0, &mut slots, &mut out);
+        let out = all_rows(plan, tables);
         let width = plan.select.len();
         let left: Vec<_> = out.iter().skip(std::cmp::min(from, out.len() as u64) as usize).collect();
         count = std::cmp::min(left.len(), room / width);
@@ -333,7 +363,83 @@ fn groups() -> Vec<Group> {
     out
 }
 
+// Facts of attributes below 3 and few numbers, as the plans of compare/plan_cases.rs have them.
+fn drawn_tables(random: &mut Random, number: &Fn(u64) -> u64) -> Tables {
+    let count = random.below(16);
+    let fact = |_| (number(random.below(9)), random.below(3), number(random.below(9)));
+    let mut facts: Vec<(u64, u64, u64)> = (0..count).map(fact).collect();
+    facts.sort();
+    facts.dedup();
+    database::tables(&facts)
+}
+
+// One thing of the tables changed.
+fn damaged_table(random: &mut Random, tables: &mut Tables) {
+    let i = random.below(3) as usize;
+    let length = tables[i].len() as u64;
+    match random.below(6) {
+        0 => tables[i].truncate(random.below(length + 1) as usize),
+        1 => tables[i].extend([0, LARGEST, LARGEST][..1 + random.below(3) as usize].iter()),
+        2 => tables.swap(i, random.below(3) as usize),
+        3 if length > 3 => {
+            // Two rows change places.
+            let at = 3 * random.below(length / 3 - 1) as usize;
+            for j in at..at + 3 {
+                tables[i].swap(j, j + 3);
+            }
+        }
+        _ if length > 0 => {
+            let word = &mut tables[i][random.below(length) as usize];
+            *word = [0, 1, 2, LARGEST, word.wrapping_add(1)][random.below(5) as usize];
+        }
+        _ => tables[i].push(0),
+    }
+}
+
+fn hold(random: &mut Random, count: u64) {
+    let mut held = Held::new("evaluations");
+    let mut left = count;
+    while 0 < left {
+        let (high, largest) = (2 + random.below(4), random.below(4) == 0);
+        let number = |n: u64| if largest && n % high == 1 { LARGEST } else { n % high };
+        let mut tables = drawn_tables(random, &number);
+        if random.below(3) == 0 {
+            damaged_table(random, &mut tables);
+        }
+        let mut windows = Vec::new();
+        for _ in 0..::std::cmp::min(left, 10) {
+            left -= 1;
+            let mut plan = match random.below(5) {
+                0 => plan_cases::damaged(random),
+                _ => plan_cases::sound(random),
+            };
+            for slot in &mut plan.slots {
+                slot.1 = number(slot.1);
+            }
+            let mut from = random.below(5);
+            if refusal(&plan, &tables).is_none() {
+                let rows = all_rows(&plan, &tables);
+                assert_eq!(rows, rows_by_002(&plan, &tables), "002 and 01 part");
+                held.count("evaluated", 1);
+                held.count("rows", rows.len());
+                from = match random.below(8) {
+                    0 => LARGEST - random.below(2),
+                    1 | 2 => (rows.len() as u64 + random.below(3)).saturating_sub(1),
+                    _ => random.below(rows.len() as u64 + 1),
+                };
+            }
+            windows.push(Window(plan, from, random.below(ROOM as u64 + 1) as usize));
+        }
+        let answers: String = windows.iter().map(|window| answer(&tables, window) + "\n").collect();
+        held.add(group_numbers(&Group { tables: tables, windows: windows }) + "\n", answers);
+    }
+    held.end(count);
+}
+
 fn main() {
+    if let Some((mut random, count)) = held::asked() {
+        return hold(&mut random, count);
+    }
     let answers = std::env::args().nth(1) == Some("answers".to_string());
     let mut input = 0;
     for group in &groups() {

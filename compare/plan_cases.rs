@@ -108,10 +108,17 @@ pub fn out_out(n: usize) -> Case {
 
 // A sound plan of a few scans: each slot is read once set and written once.
 pub fn sound(random: &mut Random) -> Case {
+    sound_of(random, 5)
+}
+
+fn sound_of(random: &mut Random, most: u64) -> Case {
     let constants = 1 + random.below(2) as usize;
     let mut slots: Vec<(bool, u64)> = (0..constants).map(|_| (true, random.below(9))).collect();
     let mut scans = Vec::new();
-    for _ in 0..random.below(6) {
+    for _ in 0..random.below(most + 1) {
+        if slots.len() + 2 > SLOTS {
+            break;
+        }
         let attribute = random.below(3);
         let read = |random: &mut Random, n: usize| random.below(n as u64) as u16;
         let n = slots.len();
@@ -174,4 +181,31 @@ pub fn damaged(random: &mut Random) -> Case {
     }
     c.select_count = if c.select_count as usize <= SELECTS { c.select.len() as u64 } else { c.select_count };
     c
+}
+
+// A plan of small numbers, large ones among them, and of no sense.
+fn wild(random: &mut Random) -> Case {
+    let number = |random: &mut Random| [0, 1, 2, 3, 4, u64::max_value()][random.below(6) as usize];
+    let slots: Vec<(bool, u64)> = (0..random.below(6)).map(|_| (random.below(2) == 0, number(random))).collect();
+    let high = slots.len() as u64 + if random.below(4) == 0 { 1 } else { 0 };
+    let slot = |random: &mut Random| if high == 0 || random.below(40) == 0 { 65535 } else { random.below(high) as u16 };
+    let scans = (0..random.below(5))
+        .map(|_| (random.below(3) as usize, random.below(3) as usize, slot(random), number(random), slot(random)))
+        .collect();
+    let select = (0..random.below(4)).map(|_| slot(random)).collect();
+    let mut wild = case(scans, slots, select);
+    if random.below(20) == 0 {
+        wild.scan_count = [SCANS as u64 + 1, u64::max_value()][random.below(2) as usize];
+    }
+    wild
+}
+
+// A plan of any of these kinds, or a sound one of up to 48 scans.
+pub fn drawn(random: &mut Random) -> Case {
+    match random.below(8) {
+        0 | 1 | 2 => sound(random),
+        3 | 4 => damaged(random),
+        5 | 6 => wild(random),
+        _ => sound_of(random, SCANS as u64),
+    }
 }

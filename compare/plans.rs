@@ -1,20 +1,29 @@
 // Writes cases for crates/plans, or the answers to them: plans of every kind, and what 001 makes of them (compare/run says how it
 // is built, with a stand-in for `datom`). The check is read off document 01's table (compare/plan_cases.rs), independently of the Rattle;
-// the cost is 001's own wherever it fits a u64 and 001 does not panic, and is summed in 128 bits to know where that is.
+// the cost is 001's own wherever it fits a u64 and 001 does not panic, and is summed in 128 bits to know where that is; `next` is
+// 000's own wherever it is not refused.
 #[path = "../target/compare/plan.rs"]
 mod plan;
+#[path = "../target/compare/planner.rs"]
+mod planner;
 
 mod plan_cases;
 mod datom;
+mod held;
+mod plan_line;
+mod query;
 mod random;
 mod rust_plan;
 
-use plan_cases::{case, check, damaged, e, in_order, numbers, out_out, sound, text, Case, Verdict, SCANS, SELECTS, SLOTS};
+use held::Held;
+use plan_cases::{case, check, damaged, drawn, e, in_order, numbers, out_out, sound, text, Case, Verdict, SCANS, SELECTS, SLOTS};
+use plan_line::index_text;
+use planner::Planner;
 use random::Random;
 use rust_plan::rust_plan;
 
-// 20, then 21, then 27 at the scan at which, from the last, the cost first passes 2^64 - 1.
-fn cost_fault(case: &Case) -> Verdict {
+// 20, then 21 at the lowest such scan.
+fn flows_fault(case: &Case) -> Verdict {
     if case.slot_count > SLOTS as u64 || case.scan_count > SCANS as u64 || case.select_count > SELECTS as u64 {
         return Some((20, 0));
     }
@@ -22,6 +31,15 @@ fn cost_fault(case: &Case) -> Verdict {
         if scan.1 == 0 && scan.0 == 2 {
             return Some((21, i as u64));
         }
+    }
+    None
+}
+
+// Then 27 at the scan at which, from the last, the cost first passes 2^64 - 1.
+fn cost_fault(case: &Case) -> Verdict {
+    let fault = flows_fault(case);
+    if fault.is_some() {
+        return fault;
     }
     let mut cost: u128 = 1;
     for i in (0..case.scans.len()).rev() {
@@ -54,6 +72,18 @@ fn agrees_with_001(case: &Case, verdict: Verdict) {
     assert_eq!(passes, verdict.is_none(), "001 and 01 part");
 }
 
+// What 000's `next` says, and the indexes after it; where that is refused, those that were given.
+fn next_text(case: &Case) -> String {
+    if let Some(fault) = flows_fault(case) {
+        let given = (0..SCANS).take_while(|i| (*i as u64) < case.scan_count);
+        let indexes: String = given.map(|i| case.scans.get(i).map_or(0, |s| s.0).to_string()).collect();
+        return format!("{} {}", text(Some(fault)), indexes);
+    }
+    let mut planner = Planner::damaged(rust_plan(case, &[]));
+    let is_new = planner.next();
+    format!("{} {}", if is_new { "yes" } else { "no" }, index_text(planner.get_plan()))
+}
+
 fn answer(case: &Case) -> String {
     let verdict = check(case);
     agrees_with_001(case, verdict);
@@ -61,7 +91,7 @@ fn answer(case: &Case) -> String {
         None => rust_plan(case, &[]).cost().to_string(),
         fault => text(fault),
     };
-    format!("check {}, cost {}", text(verdict), cost)
+    format!("check {}, cost {}, next {}", text(verdict), cost, next_text(case))
 }
 
 // Scans from letters: an index (a, v, e), in capitals for a key not used before; a flow (o, i, t: out-out, in-out, in-in).
@@ -135,6 +165,14 @@ fn cases() -> Vec<Case> {
 
 fn main() {
     std::panic::set_hook(Box::new(|_| {}));
+    if let Some((mut random, count)) = held::asked() {
+        let mut held = Held::new("plans");
+        for _ in 0..count {
+            let case = drawn(&mut random);
+            held.add(numbers(&case) + "\n", answer(&case) + "\n");
+        }
+        return held.end(count);
+    }
     let answers = std::env::args().nth(1) == Some("answers".to_string());
     for case in &cases() {
         println!("{}", if answers { answer(case) } else { numbers(case) });

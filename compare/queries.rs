@@ -7,30 +7,21 @@ mod plan;
 mod planner;
 
 mod datom;
+mod held;
 mod plan_line;
 mod query;
 mod query_cases;
 mod random;
 
-use plan::{Index, Plan};
-use plan_line::plan_text;
+use held::Held;
+use plan::Plan;
+use plan_line::{index_text, plan_text};
 use planner::Planner;
 use query_cases::{case, chain, numbers, refusal, Case};
 use random::Random;
 
 // The plans of a query are listed up to this many.
-const LISTED: usize = 60;
-
-fn index_text(plan: &Plan) -> String {
-    plan.scans
-        .iter()
-        .map(|s| match s.index {
-            Index::Aevt => '0',
-            Index::Avet => '1',
-            Index::Eavt => '2',
-        })
-        .collect()
-}
+const LISTED: usize = 500;
 
 // The cost, where it fits: 001 wraps.
 fn cost_text(plan: &Plan) -> String {
@@ -97,7 +88,24 @@ fn all_cases() -> Vec<Case> {
     all
 }
 
+// How many plans an answer lists: each is its indexes and its cost, which may be left out in two words.
+fn plans_of(answer: &str) -> usize {
+    let listing = answer.replace("left out", "left").replace(" ..", "");
+    let plans = listing.split("; plans").nth(1).unwrap_or("").split(" again ").next().unwrap();
+    plans.split_whitespace().count() / 2
+}
+
 fn main() {
+    if let Some((mut random, count)) = held::asked() {
+        let mut held = Held::new("queries");
+        for _ in 0..count {
+            let case = if random.below(3) == 0 { query_cases::dense(&mut random) } else { query_cases::drawn(&mut random) };
+            let answer = answer(&case);
+            held.count("plans listed", plans_of(&answer));
+            held.add(numbers(&case) + "\n", answer + "\n");
+        }
+        return held.end(count);
+    }
     let answers = std::env::args().nth(1) == Some("answers".to_string());
     for case in &all_cases() {
         println!("{}", if answers { answer(case) } else { numbers(case) });

@@ -115,3 +115,55 @@ pub fn chain(n: usize, m: usize) -> Case {
     statements.extend((0..m).map(|i| (0, 7, true, i as u64)));
     Case { variables: n as u64 + 1, statements: statements, select: vec![0] }
 }
+
+// A query that planning takes, of up to six statements over few variables, so that most scans are in-in and the plans are many.
+pub fn dense(random: &mut Random) -> Case {
+    loop {
+        let variables = 2 + random.below(2);
+        let statements = (0..1 + random.below(6))
+            .map(|_| (random.below(variables) as u16, random.below(3), random.below(6) == 0, random.below(variables)))
+            .collect();
+        let select = (0..1 + random.below(2)).map(|_| random.below(variables) as u16).collect();
+        let case = Case { variables: variables, statements: statements, select: select };
+        if refusal(&case).is_none() {
+            return case;
+        }
+    }
+}
+
+// A query of numbers at the ends of what they can be.
+fn wild(random: &mut Random) -> Case {
+    let variables = [0, 1, 2, 3, 3, 3, 3, 96, 97, 65535, 65536, u64::max_value()][random.below(12) as usize];
+    let variable = |random: &mut Random| [0, 1, 2, 0, 1, 2, 0, 3, 95, 96, 65535][random.below(11) as usize];
+    let number = |random: &mut Random| [0, 1, u64::max_value()][random.below(3) as usize];
+    let statements = (0..random.below(7))
+        .map(|_| {
+            let constant = random.below(3) == 0;
+            (variable(random), number(random), constant, if constant { number(random) } else { variable(random) as u64 })
+        })
+        .collect();
+    let select = (0..random.below(4)).map(|_| random.below(3) as u16).collect();
+    Case { variables: variables, statements: statements, select: select }
+}
+
+// A query around the capacities: each variable is named, and statements, slots and selects are some below, at, or above what fits.
+fn full(random: &mut Random) -> Case {
+    let n = STATEMENTS as u64 - 2 + random.below(4);
+    let variables = n + 1 - random.below(3);
+    let constants = SLOTS - variables - 2 + random.below(4);
+    let statements = (0..n)
+        .map(|i| (i as u16 % variables as u16, random.below(4), i < constants, random.below(variables)))
+        .collect();
+    let selects = [1, 2, 31, 32, 33][random.below(5) as usize];
+    Case { variables: variables, statements: statements, select: (0..selects).map(|_| random.below(variables) as u16).collect() }
+}
+
+// A query of any of these kinds.
+pub fn drawn(source: &mut Random) -> Case {
+    match source.below(100) {
+        0 | 1 => full(source),
+        2...15 => wild(source),
+        16...19 => dense(source),
+        _ => random(source),
+    }
+}

@@ -9,11 +9,13 @@ mod plan;
 mod planner;
 
 mod datom;
+mod held;
 mod plan_line;
 mod query;
 mod query_cases;
 mod random;
 
+use held::Held;
 use permutation::Permutations;
 use plan_line::plan_text;
 use planner::Planner;
@@ -89,20 +91,34 @@ fn all_cases() -> Vec<Case> {
     for _ in 0..400 {
         all.push(query_cases::random(&mut source));
     }
-    // of some statements, one or two bind a variable twice
     for _ in 0..100 {
-        let mut c = query_cases::random(&mut source);
-        for _ in 0..2 {
-            let i = source.below(c.statements.len() as u64 + 1) as usize;
-            let v = source.below(c.variables) as u16;
-            c.statements.insert(i, (v, source.below(3), false, v as u64));
-        }
-        all.push(c);
+        all.push(bound_twice_case(&mut source));
     }
     all
 }
 
+// Of some statements, one or two bind a variable twice.
+fn bound_twice_case(source: &mut Random) -> Case {
+    let mut c = query_cases::random(source);
+    for _ in 0..2 {
+        let i = source.below(c.statements.len() as u64 + 1) as usize;
+        let v = source.below(c.variables) as u16;
+        c.statements.insert(i, (v, source.below(3), false, v as u64));
+    }
+    c
+}
+
 fn main() {
+    if let Some((mut random, count)) = held::asked() {
+        let mut held = Held::new("searches");
+        for i in 0..count {
+            let case = if i % 5 == 0 { bound_twice_case(&mut random) } else { query_cases::drawn(&mut random) };
+            let answer = answer(&case);
+            held.count("found", answer.starts_with("found") as usize);
+            held.add(numbers(&case) + "\n", answer + "\n");
+        }
+        return held.end(count);
+    }
     let answers = std::env::args().nth(1) == Some("answers".to_string());
     for case in &all_cases() {
         println!("{}", if answers { answer(case) } else { numbers(case) });

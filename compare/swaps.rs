@@ -1,83 +1,151 @@
-// Writes what crates/swaps must write, by the Rust of 005 (compare/run says how it is built). 005 has no capacity: the two
-// refusals are 01's, 40 at 0 for more than 48 elements.
+// Writes cases for crates/swaps, or the answers to them, by the Rust of 005 (compare/run says how it is built). 005 has no capacity:
+// the two refusals are 01's, 40 at 0 for more than 48 elements.
 #[path = "../target/compare/permutation.rs"]
 mod permutation;
 
+mod held;
+mod random;
+
+use held::Held;
 use permutation::Permutations;
+use random::Random;
 
 const MAX_ELEMENTS: usize = 48;
 
+// Swaps of some elements from the first on, so many steps; or a state, of its counters, elements and position.
+enum Case {
+    Listing(usize, usize),
+    State(Vec<usize>, usize, usize),
+}
+
+fn numbers(case: &Case) -> String {
+    match case {
+        &Case::Listing(n, steps) => format!("0 {} {}\n", n, steps),
+        &Case::State(ref ks, n, i) => {
+            let counters: String = ks.iter().map(|k| format!(" {}", k)).collect();
+            format!("1 {} {}{}\n", n, i, counters)
+        }
+    }
+}
+
+fn answer(case: &Case) -> String {
+    match case {
+        &Case::Listing(n, steps) => listing(n, steps),
+        &Case::State(ref ks, n, i) => four_steps(ks, n, i),
+    }
+}
+
 fn next_text(next: Option<(usize, usize)>) -> String {
     match next {
-        Some((a, b)) => format!("swap {a} {b}"),
+        Some((a, b)) => format!("swap {} {}", a, b),
         None => "none".to_string(),
     }
 }
 
-fn listing(n: usize, steps: usize) {
-    let letters: Vec<char> = (0..MAX_ELEMENTS.min(n)).map(|j| (b'a' + (j % 26) as u8) as char).collect();
-    let mut order = letters;
+fn listing(n: usize, steps: usize) -> String {
+    let mut order: Vec<char> = (0..MAX_ELEMENTS.min(n)).map(|j| (b'a' + (j % 26) as u8) as char).collect();
     let text = |order: &[char]| order.iter().collect::<String>();
     // A refused state is that of no elements: its steps give none, and no element is named.
     let refused = n > MAX_ELEMENTS;
-    println!("{} {}", if refused { "refused 40 at 0" } else { "fresh" }, text(&order));
+    let mut out = format!("{} {}\n", if refused { "refused 40 at 0" } else { "fresh" }, text(&order));
     let mut permutations = Permutations::new(if refused { 0 } else { n });
     for _ in 0..steps {
         let next = permutations.next();
         if let Some((a, b)) = next {
             order.swap(a, b);
         }
-        println!("{} {}", next_text(next), text(&order));
+        out += &format!("{} {}\n", next_text(next), text(&order));
     }
+    out
 }
 
-fn four_steps(ks: Vec<usize>, n: usize, i: usize) {
+fn four_steps(ks: &[usize], n: usize, i: usize) -> String {
     let state = |ks: &[usize], i: usize| {
-        let counters: String = ks.iter().map(|k| format!(" {k}")).collect();
-        format!("counters{counters} position {i}")
+        let counters: String = ks.iter().map(|k| format!(" {}", k)).collect();
+        format!("counters{} position {}", counters, i)
     };
     if n > MAX_ELEMENTS {
-        for _ in 0..4 {
-            println!("refused 40 at 0 {}", state(&ks, i));
-        }
-        return;
+        return format!("refused 40 at 0 {}\n", state(ks, i)).repeat(4);
     }
     let mut permutations = Permutations::damaged(ks[..n].to_vec(), i);
+    let mut out = String::new();
     for _ in 0..2 {
         let next = next_text(permutations.next());
-        for _form in ["by value", "lent"] {
-            println!("{} {}", next, state(permutations.counters(), permutations.position()));
-        }
+        // By value, and lent.
+        out += &format!("{} {}\n", next, state(permutations.counters(), permutations.position())).repeat(2);
     }
+    out
 }
 
-fn drawn(x: usize) -> usize {
+fn next_drawn(x: usize) -> usize {
     (x % 65537 * 75 + 74) % 65537
 }
 
-fn damaged(x: usize) -> usize {
-    let n = drawn(x);
-    let i = drawn(n);
+// A state that no listing has, its numbers drawn from x on, and the number to go on with.
+fn damaged(x: usize) -> (Case, usize) {
+    let n = next_drawn(x);
+    let i = next_drawn(n);
     let mut k = i;
     let ks = (0..MAX_ELEMENTS)
         .map(|j| {
-            k = drawn(k);
+            k = next_drawn(k);
             k % (j + 2)
         })
         .collect();
-    four_steps(ks, n % (MAX_ELEMENTS + 2), i % (MAX_ELEMENTS + 4));
-    k
+    (Case::State(ks, n % (MAX_ELEMENTS + 2), i % (MAX_ELEMENTS + 4)), k)
+}
+
+fn cases() -> Vec<Case> {
+    let listings = [(0, 2), (1, 2), (2, 3), (3, 7), (4, 25), (5, 121), (MAX_ELEMENTS, 9), (MAX_ELEMENTS + 1, 2)];
+    let mut all: Vec<Case> = listings.iter().map(|l| Case::Listing(l.0, l.1)).collect();
+    all.push(Case::State(vec![usize::max_value(); MAX_ELEMENTS], 4, 0));
+    all.push(Case::State(vec![2; MAX_ELEMENTS], MAX_ELEMENTS, usize::max_value()));
+    all.push(Case::State(vec![1; MAX_ELEMENTS], usize::max_value(), 3));
+    let mut x = 1;
+    for _ in 0..60 {
+        let (case, next) = damaged(x);
+        all.push(case);
+        x = next;
+    }
+    all
+}
+
+// A state as listings have it, or of any numbers; now and then a listing.
+fn drawn(random: &mut Random) -> Case {
+    let m = usize::max_value();
+    let mut below = |n: usize| random.below(n as u64) as usize;
+    if below(50) == 0 {
+        return Case::Listing([below(8), MAX_ELEMENTS - below(3), MAX_ELEMENTS + below(3), m][below(4)], below(300));
+    }
+    let n = if below(20) == 0 { m - below(2) } else { below(MAX_ELEMENTS + 2) };
+    let i = match below(20) {
+        0 => m - below(2),
+        1...10 => 0,
+        _ => below(MAX_ELEMENTS + 4),
+    };
+    // With counters as high as they get a step goes far.
+    let most = below(3);
+    let ks = (0..MAX_ELEMENTS)
+        .map(|j| match below(40) {
+            0 => m - below(2),
+            _ if most == 0 => j,
+            _ => below(j + 2),
+        })
+        .collect();
+    Case::State(ks, n, i)
 }
 
 fn main() {
-    for (n, steps) in [(0, 2), (1, 2), (2, 3), (3, 7), (4, 25), (5, 121), (MAX_ELEMENTS, 9), (MAX_ELEMENTS + 1, 2)] {
-        listing(n, steps);
+    if let Some((mut random, count)) = held::asked() {
+        let mut held = Held::new("swaps");
+        for _ in 0..count {
+            let case = drawn(&mut random);
+            held.add(numbers(&case), answer(&case));
+        }
+        return held.end(count);
     }
-    four_steps(vec![usize::MAX; MAX_ELEMENTS], 4, 0);
-    four_steps(vec![2; MAX_ELEMENTS], MAX_ELEMENTS, usize::MAX);
-    four_steps(vec![1; MAX_ELEMENTS], usize::MAX, 3);
-    let mut x = 1;
-    for _ in 0..60 {
-        x = damaged(x);
+    let answers = std::env::args().nth(1) == Some("answers".to_string());
+    for case in &cases() {
+        print!("{}", if answers { answer(case) } else { numbers(case) });
     }
 }

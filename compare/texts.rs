@@ -5,10 +5,12 @@
 mod plan;
 
 mod datom;
+mod held;
 mod plan_cases;
 mod random;
 mod rust_plan;
 
+use held::Held;
 use plan_cases::{case, check, damaged, e, in_order, numbers, sound, text, Case, Verdict};
 use random::Random;
 use rust_plan::rust_plan;
@@ -182,8 +184,8 @@ fn drawn_name(random: &mut Random) -> Vec<u8> {
     (0..random.below(7)).map(|_| if any { random.below(256) as u8 } else { 97 + random.below(26) as u8 }).collect()
 }
 
-fn drawn(random: &mut Random) -> Asked {
-    let case = if random.below(4) == 0 { damaged(random) } else { sound(random) };
+// A plan with drawn names, and now and then a wrong end.
+fn named(random: &mut Random, case: Case) -> Asked {
     let names: Vec<Vec<u8>> = case.slots.iter().map(|_| drawn_name(random)).collect();
     let parts: Vec<&[u8]> = names.iter().map(|n| &n[..]).collect();
     let mut drawn = asked(case, &parts);
@@ -277,12 +279,22 @@ fn cases() -> Vec<Asked> {
     }
     let mut random = Random(20260103);
     for _ in 0..160 {
-        all.push(drawn(&mut random));
+        let case = if random.below(4) == 0 { damaged(&mut random) } else { sound(&mut random) };
+        all.push(named(&mut random, case));
     }
     all
 }
 
 fn main() {
+    if let Some((mut random, count)) = held::asked() {
+        let mut held = Held::new("texts");
+        for _ in 0..count {
+            let case = plan_cases::drawn(&mut random);
+            let asked = named(&mut random, case);
+            held.add(asked_numbers(&asked), answer(&asked));
+        }
+        return held.end(count);
+    }
     let answers = std::env::args().nth(1) == Some("answers".to_string());
     for asked in &cases() {
         print!("{}", if answers { answer(asked) } else { asked_numbers(asked) });

@@ -15,7 +15,7 @@ const ROOM: usize = 16;
 
 const WINDOWS: usize = 60;
 
-const LISTED: usize = 60;
+const LISTED: usize = 500;
 
 const CASES: u64 = 100;
 

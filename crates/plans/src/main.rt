@@ -1,5 +1,5 @@
-// Answers plans given as decimal numbers (crate `given`): what the plan check says, and the cost. stdin and stdout are written by the
-// Rust (compare/plans.rs).
+// Answers plans given as decimal numbers (crate `given`): what the plan check says, the cost, and whether `next` makes a new plan, with
+// the indexes that stand after it. stdin and stdout are written by the Rust (compare/plans.rs).
 use libc::STDIN_FILENO;
 use libc::STDOUT_FILENO;
 use plan::Plan;
@@ -30,7 +30,31 @@ fn put_answers(plan: Plan) {
     } else {
         put_verdict(verdict);
     }
+    io::write_all(STDOUT_FILENO, b", next ");
+    put_next(plan);
     io::write_all(STDOUT_FILENO, b"\n");
+}
+
+fn put_is_new(is_new: bool) {
+    if is_new {
+        io::write_all(STDOUT_FILENO, b"yes");
+    } else {
+        io::write_all(STDOUT_FILENO, b"no");
+    }
+}
+
+fn put_next(plan: Plan) {
+    let next = listing::next(plan);
+    let verdict = next.verdict;
+    let after = next.plan;
+    let scans = after.scans;
+    if let Verdict::Fine = verdict {
+        put_is_new(next.is_new);
+    } else {
+        put_verdict(verdict);
+    }
+    io::write_all(STDOUT_FILENO, b" ");
+    written::put_indexes(scans, after.scan_count);
 }
 
 // The answers to all plans of a text.

@@ -1,31 +1,19 @@
 // Answers queries given as decimal numbers (crate `given`): the refusal, or the plan, the plans listed from it with their costs, and
 // the indexes that stand again after the last. stdin and stdout are written by the Rust (compare/queries.rs).
-use capacity::MAX_SCANS;
 use libc::STDIN_FILENO;
 use plan::Plan;
-use plan::Scan;
 use planner::Planned;
 use query::Query;
+use refusal::Refusal;
 use refusal::Verdict;
-use written::index_number;
 use written::put;
+use written::put_indexes;
 use written::put_number;
 
 // How many plans are listed at the most, and up to how many scans the cost is asked.
-const LISTED: usize = 60;
+const LISTED: usize = 500;
 
 const WEIGHED: usize = 9;
-
-// The indexes of a plan's scans, in one word.
-fn put_indexes(scans: [Scan; MAX_SCANS], count: usize) {
-    for i in 0..MAX_SCANS {
-        if i < count {
-            let scan = scans[i];
-            let index = scan.index;
-            put_number(index_number(index));
-        }
-    }
-}
 
 fn put_listed(plan: Plan) {
     let scans = plan.scans;
@@ -96,12 +84,18 @@ fn planned_of(query: Query) -> Planned {
     planner::plan(query)
 }
 
+// A refusal comes with the plan of nothing, of which there is nothing to write.
+fn put_refused(r: Refusal, plan: Plan) {
+    written::put_refusal(r);
+    written::put_plan(plan);
+}
+
 fn put_answer(query: Query) {
     let planned = planned_of(query);
     let verdict = planned.verdict;
     let plan = planned.plan;
     match verdict {
-        Verdict::Refused(r) => written::put_refusal(r),
+        Verdict::Refused(r) => put_refused(r, plan),
         Verdict::Fine => {
             written::put_plan(plan);
             put(b"; plans");

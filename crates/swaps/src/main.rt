@@ -1,6 +1,8 @@
-// Writes what the steps of 005 give: every swap and order of 0 to 5 elements, and steps of damaged states, by both forms.
-// crates/swaps/stdout is what the Rust writes (compare/swaps.rs).
+// Writes what the steps of 005 give, for cases given as decimal numbers. A case is 0, a number of elements and a number of steps: the
+// swaps from a fresh state on, and the order after each. Or it is 1, a state's elements, its position and its 48 counters: four
+// steps of that state, which may be damaged, two by each form. stdin and stdout are written by the Rust (compare/swaps.rs).
 use capacity::MAX_ELEMENTS;
+use libc::STDIN_FILENO;
 use libc::STDOUT_FILENO;
 use permutation::NextSwap;
 use permutation::Permutations;
@@ -150,59 +152,69 @@ fn four_steps(state: Permutations) {
     put_step(value);
 }
 
-// The number after x in a fixed row of numbers below 65537.
-fn drawn(x: usize) -> usize {
-    (x % 65537 * 75 + 74) % 65537
+// The counters of a state that begin at a place, and where to read on.
+struct Counters {
+    ks: [usize; MAX_ELEMENTS],
+    next: usize,
 }
 
-// Steps of a state that no listing has: its elements, position and counters are drawn from x on. The number to go on with.
-fn damaged(x: usize) -> usize {
-    let n = drawn(x);
-    let i = drawn(n);
+fn read_counters(text: &[u8], start: usize) -> Counters {
     let mut ks = [0usize; MAX_ELEMENTS];
-    let mut k = i;
+    let mut next = start;
     let mut j: usize = 0;
     while j < MAX_ELEMENTS {
-        k = drawn(k);
-        ks[j] = k % (j + 2);
+        let k = numbers::number_at(text, next);
+        ks[j] = k.value as usize;
+        next = k.next;
         j += 1;
     }
+    Counters { ks, next }
+}
+
+// The state that begins at a place. Returns where to read on.
+fn put_state(text: &[u8], start: usize) -> usize {
+    let n = numbers::number_at(text, start);
+    let i = numbers::number_at(text, n.next);
+    let counters = read_counters(text, i.next);
+    let ks = counters.ks;
     four_steps(Permutations {
         ks,
-        n: n % (MAX_ELEMENTS + 2),
-        i: i % (MAX_ELEMENTS + 4),
+        n: n.value as usize,
+        i: i.value as usize,
     });
-    k
+    counters.next
+}
+
+// The listing that begins at a place. Returns where to read on.
+fn put_listing(text: &[u8], start: usize) -> usize {
+    let n = numbers::number_at(text, start);
+    let steps = numbers::number_at(text, n.next);
+    listing(n.value as usize, steps.value as usize);
+    steps.next
+}
+
+fn put_case(text: &[u8], start: usize) -> usize {
+    let kind = numbers::number_at(text, start);
+    if kind.value == 0 {
+        return put_listing(text, kind.next);
+    }
+    put_state(text, kind.next)
+}
+
+// The answers to all cases of a text.
+fn put_all(text: &[u8]) {
+    let mut at: usize = 0;
+    while numbers::skip(text, at) < text.len() {
+        let next = put_case(text, at);
+        if next <= at {
+            return;
+        }
+        at = next;
+    }
 }
 
 fn main() {
-    listing(0, 2);
-    listing(1, 2);
-    listing(2, 3);
-    listing(3, 7);
-    listing(4, 25);
-    listing(5, 121);
-    listing(MAX_ELEMENTS, 9);
-    listing(MAX_ELEMENTS + 1, 2);
-    four_steps(Permutations {
-        ks: [18446744073709551615; MAX_ELEMENTS],
-        n: 4,
-        i: 0,
-    });
-    four_steps(Permutations {
-        ks: [2; MAX_ELEMENTS],
-        n: MAX_ELEMENTS,
-        i: 18446744073709551615,
-    });
-    four_steps(Permutations {
-        ks: [1; MAX_ELEMENTS],
-        n: 18446744073709551615,
-        i: 3,
-    });
-    let mut x: usize = 1;
-    let mut t: usize = 0;
-    while t < 60 {
-        x = damaged(x);
-        t += 1;
-    }
+    let mut buffer = io::large_buffer();
+    let n = io::read_full(STDIN_FILENO, &mut buffer);
+    put_all(&buffer[..n]);
 }

@@ -103,6 +103,17 @@ pub fn put_plan(plan: Plan) {
     put_selects(select, plan.select_count);
 }
 
+// The indexes of a plan's scans, in one word.
+pub fn put_indexes(scans: [Scan; MAX_SCANS], count: usize) {
+    for i in 0..MAX_SCANS {
+        if i < count {
+            let scan = scans[i];
+            let index = scan.index;
+            put_number(index_number(index));
+        }
+    }
+}
+
 pub fn put_refusal(r: Refusal) {
     put(b"refused ");
     put_number(r.number as u64);

@@ -5,10 +5,10 @@ use Rattle.answers.proofs.put_listing.Statement.{statement}
 use Rattle.answers.proofs.put_listing.Tie as tie
 
 abbrev Inv-loop : tie.InvT-loop
-Inv-loop start aevt avet eavt room plan₀ i₀ plan i = i ≤ 60
+Inv-loop start aevt avet eavt room plan₀ i₀ plan i = i ≤ 500
 
 abbrev μ-loop : tie.MeasureT-loop
-μ-loop start aevt avet eavt room plan₀ i₀ plan i = 60 - i
+μ-loop start aevt avet eavt room plan₀ i₀ plan i = 500 - i
 
 pub put-listing-spec : {M : Type 1} → statement M
 put-listing-spec =

@@ -5,10 +5,10 @@ use Rattle.queries.proofs.put_listing.Statement.{statement}
 use Rattle.queries.proofs.put_listing.Tie as tie
 
 abbrev Inv-loop : tie.InvT-loop
-Inv-loop plan₀ listed₀ plan listed = listed ≤ 60
+Inv-loop plan₀ listed₀ plan listed = listed ≤ 500
 
 abbrev μ-loop : tie.MeasureT-loop
-μ-loop plan₀ listed₀ plan listed = 60 - listed
+μ-loop plan₀ listed₀ plan listed = 500 - listed
 
 pub put-listing-spec : {M : Type 1} → statement M
 put-listing-spec =

@@ -4,8 +4,8 @@ use borrow.Author.Needs.{needs}
 use Prim.Native.Nat.{_≤_, _-_}
 use lib.ListN.{length}
 use mathlib.Core.Path.{_≡_}
-use Rattle.queries.proofs.put_indexes.Statement.{statement}
-use Rattle.queries.proofs.put_indexes.Tie as tie
+use Rattle.written.proofs.put_indexes.Statement.{statement}
+use Rattle.written.proofs.put_indexes.Tie as tie
 
 abbrev Inv-loop : tie.InvT-loop
 Inv-loop count scans i₀ i = (i ≤ maxScans) × (length scans ≡ maxScans)
