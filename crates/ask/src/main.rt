@@ -2,12 +2,14 @@
 // the first refusal, alone; or one fixed line where the input is outside the layout.
 use asked::MAX_ENDS;
 use asked::Part;
+use eval::Evaluated;
 use libc::STDIN_FILENO;
 use libc::STDOUT_FILENO;
 use plan::Plan;
 use refusal::Refusal;
 use refusal::Verdict;
 ghost use mathlib.Core.Path.{_≡_};
+ghost use Prim.Native.Nat.{_≤_};
 ghost use lib.ListN.{length};
 
 // The program's capacities: a text is shorter than this many bytes, and has at most this many numbers.
@@ -226,17 +228,33 @@ fn put_rows<'a>(
         let shown = put_window(plan, aevt, avet, eavt, from, left, out);
         let count = shown.count as u64;
         if !shown.more {
-            put(b"none follows\n");
+            put_none();
             return;
         }
-        // A row always fits in the window; and past the largest number no row can be named.
-        if count == 0 || left <= count || LARGEST - from < count {
-            put(b"more follow\n");
+        if left <= count {
+            put_more();
+            return;
+        }
+        // A row always fits in a window, and no row past the largest number can be named.
+        if count == 0 {
+            put_more();
+            return;
+        }
+        if LARGEST - from < count {
+            put_more();
             return;
         }
         left -= count;
         from += count;
     }
+}
+
+fn put_none() {
+    put(b"none follows\n");
+}
+
+fn put_more() {
+    put(b"more follow\n");
 }
 
 // One window: rows from a number on, as many as fit and at most so many.
@@ -248,16 +266,25 @@ fn put_window<'a>(
     from: u64,
     most: u64,
     out: &mut [u8],
-) -> eval::Evaluated {
+) -> Evaluated {
     let mut rows = window_buffer();
     let room = room_for(most, plan.select_count);
-    let shown = eval::evaluate(plan, aevt, avet, eavt, from, &mut rows[..room]);
-    put_words(
-        &rows,
-        words_of(shown.count, plan.select_count),
-        plan.select_count,
-        out,
-    );
+    put_into(plan, aevt, avet, eavt, from, &mut rows[..room], out)
+}
+
+// The same, by way of a buffer that the rows fill.
+fn put_into<'a>(
+    plan: Plan,
+    aevt: &'a [u64],
+    avet: &'a [u64],
+    eavt: &'a [u64],
+    from: u64,
+    rows: &mut [u64],
+    out: &mut [u8],
+) -> Evaluated {
+    let shown = eval::evaluate(plan, aevt, avet, eavt, from, rows);
+    let width = plan.select_count;
+    put_words(rows, words_of(shown.count, width), width, out);
     shown
 }
 
@@ -280,7 +307,9 @@ fn words_of(count: usize, width: usize) -> usize {
 }
 
 // The words of the rows that a window shows: as many whole rows as fit, and at most so many.
-fn room_for(most: u64, width: usize) -> usize {
+fn room_for(most: u64, width: usize) -> usize
+    ensures { λ r. ⌜ r ≤ 2048 ⌝ }
+{
     if width == 0 {
         return 0;
     }
