@@ -96,35 +96,14 @@ fn answer_words(words: &[u64]) {
     }
 }
 
-// Plan, or search.
+// Plan, or search, and weigh the plan.
 fn answer_named(words: &[u64], names: &[u8]) {
-    let query = asked::read_query(words);
-    if asked::word_at(words, asked::TASK) == asked::SEARCH {
-        let found = search::search(query);
-        let verdict = found.verdict;
-        let plan = found.plan;
-        answer_planned(verdict, plan, words, names);
-    } else {
-        let planned = planner::plan(query);
-        let verdict = planned.verdict;
-        let plan = planned.plan;
-        answer_planned(verdict, plan, words, names);
-    }
-}
-
-fn answer_planned(verdict: Verdict, plan: Plan, words: &[u64], names: &[u8]) {
+    let answer = answer::plan_asked(words);
+    let verdict = answer.verdict;
+    let plan = answer.plan;
     match verdict {
         Verdict::Refused(r) => put_refusal(r),
-        Verdict::Fine => answer_plan(plan, words, names),
-    }
-}
-
-fn answer_plan(plan: Plan, words: &[u64], names: &[u8]) {
-    let costed = cost::cost(plan);
-    let verdict = costed.verdict;
-    match verdict {
-        Verdict::Refused(r) => put_refusal(r),
-        Verdict::Fine => answer_costed(plan, costed.cost, words, names),
+        Verdict::Fine => answer_costed(plan, answer.cost, words, names),
     }
 }
 
