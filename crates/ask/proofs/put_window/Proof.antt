@@ -1,0 +1,18 @@
+-- `put_window` is safe: the part is as long as it says.
+use mathlib.Core.Path.{sym}
+use lib.Seq.{length-take-le}
+use borrow.Author.Needs.{needs}
+use Rattle.ask.proofs.put_window.Statement.{statement}
+use Rattle.ask.proofs.put_window.Tie as tie
+
+pub put-window-spec : {M : Type 1} → statement M
+put-window-spec =
+    tie.close
+    (tie.spec
+    (λ c κs. search needs)
+    (λ c κs. search needs)
+    (λ c. search needs)
+    (λ c. sym (length-take-le _ _ (search needs)))
+    (λ c κs. search needs)
+    (λ c. search needs)
+    (λ c. search needs))

@@ -1,0 +1,66 @@
+// What the program plans for the question that is asked: in the given order or by the search, and the plan's cost.
+use plan::Plan;
+use planner::Planned;
+use refusal::Verdict;
+ghost use mathlib.Core.Path.{_≡_};
+ghost use Rattle.asked_plan.specs.Answer.{refusedWith, plannedFor, costedFor, answerOf};
+
+// Whether planning, the search or the cost is refused; the plan and its cost.
+pub struct Answer {
+    pub verdict: Verdict,
+    pub plan: Plan,
+    pub cost: u64,
+}
+
+// The plan for a question, and its cost. Refused, the empty plan and no cost.
+pub fn plan_asked(words: &[u64]) -> Answer
+    ensures { λ r. ⌜ r ≡ answerOf (now (words .entry)) ⌝ }
+{
+    let planned = plan_for(words);
+    let verdict = planned.verdict;
+    if let Verdict::Refused(_) = verdict {
+        return none(verdict);
+    }
+    let plan = planned.plan;
+    with_cost(plan)
+}
+
+// The plan in the given order, or the cheapest.
+fn plan_for(words: &[u64]) -> Planned
+    ensures { λ r. ⌜ r ≡ plannedFor (now (words .entry)) ⌝ }
+{
+    let query = asked::read_query(words);
+    if asked::word_at(words, asked::TASK) == asked::SEARCH {
+        let found = search::search(query);
+        let verdict = found.verdict;
+        let plan = found.plan;
+        return Planned { verdict, plan };
+    }
+    planner::plan(query)
+}
+
+fn with_cost(plan: Plan) -> Answer
+    ensures { λ r. ⌜ r ≡ costedFor plan ⌝ }
+{
+    let costed = cost::cost(plan);
+    let verdict = costed.verdict;
+    if let Verdict::Refused(_) = verdict {
+        return none(verdict);
+    }
+    Answer {
+        verdict: Verdict::Fine,
+        plan,
+        cost: costed.cost,
+    }
+}
+
+fn none(verdict: Verdict) -> Answer
+    ensures { λ r. ⌜ r ≡ refusedWith verdict ⌝ }
+{
+    let plan = Plan::empty();
+    Answer {
+        verdict,
+        plan,
+        cost: 0,
+    }
+}

@@ -1,0 +1,4 @@
+pub mod Bytes
+pub mod Saying
+pub mod Reading
+pub mod OneAnswer

@@ -1,0 +1,67 @@
+-- docs/LAYOUT.md, "Numbers": what a text of bytes says.
+use Prim.Native.Nat.{ℕ, _+_, _-_, _*_, _^_}
+use mathlib.Core.Bool.{Bool, true, false, cond, _&&_, _||_}
+use mathlib.Core.List.{List, [], _∷_, _++_}
+use lib.ListN.{length, take, drop}
+use lib.Dec.{leb, ltb, eqb}
+use Rattle.layout.specs.declared.Read.{Read}
+
+-- the bytes that part numbers: tab, line feed, carriage return, space
+unfoldable pub space : ℕ → Bool
+space b = eqb b 9 || (eqb b 10 || (eqb b 13 || eqb b 32))
+
+-- the bytes of digits, from 0 to 9
+unfoldable pub digit : ℕ → Bool
+digit b = leb 48 b && leb b 57
+
+-- a number with one more digit
+abbrev pub longer : ℕ → ℕ → ℕ
+longer v b = v * 10 + (b - 48)
+
+-- whether a byte goes on with a number: a digit, not after a leading zero, and the number stays below 2^64
+unfoldable pub goesOn : ℕ → ℕ → Bool
+goesOn v b = digit b && (ltb 0 v && ltb (longer v b) (2 ^ 64))
+
+-- the numbers that stand in a text, and whether all of it is in the layout; of a text that is not, the numbers before it leaves it
+pub record Said : Type 0 where
+  pub inside : Bool
+  pub words : List ℕ
+
+-- all was said
+abbrev pub end : Said
+end = record { inside = true; words = [] }
+
+-- here the text leaves the layout
+abbrev pub outside : Said
+outside = record { inside = false; words = [] }
+
+-- numbers before what the rest says
+abbrev pub before : List ℕ → Said → Said
+before vs s = record { inside = s .inside; words = vs ++ s .words }
+
+-- what the bytes that are left say, between numbers; and after digits that read as v so far
+unfoldable mutual
+  pub said : List ℕ → Said
+  said [] = end
+  said (b ∷ bs) = cond (space b) (said bs) (cond (digit b) (saidAfter bs (b - 48)) outside)
+
+  pub saidAfter : List ℕ → ℕ → Said
+  saidAfter [] v = before (v ∷ []) end
+  saidAfter (b ∷ bs) v = cond (space b) (before (v ∷ []) (said bs)) (cond (goesOn v b) (saidAfter bs (longer v b)) outside)
+
+-- whether all is in the layout and there is room for its numbers, and how many there are; else none
+unfoldable pub readFrom : Said → ℕ → Read
+readFrom s room =
+    cond (s .inside && leb (length (s .words)) room) (record { inside = true; count = length (s .words) }) (record { inside = false; count = 0 })
+
+-- numbers over the front of a buffer, as many as it has room for
+unfoldable pub over : List ℕ → List ℕ → List ℕ
+over ws buffer = take (length buffer) ws ++ drop (length ws) buffer
+
+-- what is read of a text into a buffer of so many words
+abbrev pub readOf : List ℕ → ℕ → Read
+readOf text room = readFrom (said text) room
+
+-- and the buffer after it
+abbrev pub wordsAfter : List ℕ → List ℕ → List ℕ
+wordsAfter text buffer = over (said text .words) buffer
