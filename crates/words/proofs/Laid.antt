@@ -85,3 +85,10 @@ module _ {A : Type 0} (f : A → List ℕ) where
 
     pub laid-all : (l : List A) (ws vs : List ℕ) (at i : ℕ) → length l ≡ i → vs ≡ putAt at (laid f (take i l)) ws → vs ≡ putAt at (laid f l) ws
     laid-all l ws vs at i e done = done ∙ ap (λ (m : List A). putAt at (laid f m) ws) (take-all i l (omega arith))
+
+-- what is put right behind all that was put so far
+pub put-next : (ws xs ys vs us : List ℕ) (at : ℕ) → at ≡ length xs → at + length ys ≤ length ws → vs ≡ putAt 0 xs ws → us ≡ putAt at ys vs
+    → us ≡ putAt 0 (xs ++ ys) ws
+put-next ws xs ys vs us at e room done more =
+    let z : at ≡ 0 + length xs = omega arith in
+    more ∙ rw (z, done) (put-more ws xs ys 0 (omega arith))
