@@ -1,4 +1,4 @@
-/* Which heater has its level switch bridged? Plans the question, prints the plan's text and cost, and evaluates it, two rows at a
+/* Which heater has its level switch bridged? Plans the question, prints the plan's text and cost, and evaluates it, a row at a
    time. Attribute 1: a heater's level switch. Attribute 2: a switch's state, 9 is bridged. */
 #include "loader.h"
 #include <stdio.h>
@@ -34,7 +34,7 @@ int main(void)
     static uint8_t text[1024];
     static const uint8_t names[] = "heaterswitch";
     static const uint64_t ends[] = { 6, 12, 12 }; /* a slot for each variable and each constant: the constant's name is not read */
-    uint64_t rows[2], from = 0;
+    uint64_t rows[1], from = 0;
 
     if (loader_search(&query, order, &plan, &answer) != 0)
         return refused("search", &answer);
@@ -45,7 +45,7 @@ int main(void)
     printf("%.*s\n", (int)answer.first, (const char *)text);
 
     do {
-        if (loader_evaluate(&plan, aevt, WORDS(aevt), avet, WORDS(avet), eavt, WORDS(eavt), from, rows, 1, &answer) != 0)
+        if (loader_evaluate(&plan, aevt, WORDS(aevt), avet, WORDS(avet), eavt, WORDS(eavt), from, rows, WORDS(rows), &answer) != 0)
             return refused("evaluate", &answer);
         for (uint64_t i = 0; i < answer.first; i++)
             printf("heater %llu\n", (unsigned long long)rows[i]);

@@ -10,7 +10,7 @@
    Nothing is kept: everything is lent for the time of the call and stays yours. Nothing is allocated, and there is no global state, so
    that calls may run at the same time on different buffers. x86-64, System V calling convention.
 
-   Stack: see docs/LOADER.md.
+   Stack: no call takes more than LOADER_STACK bytes (loader/run measures it).
 
    A refused call writes its answer, and nothing else: plan, order, rows and text stay as they were. */
 #ifndef LOADER_H
@@ -21,6 +21,8 @@
 #ifdef __cplusplus
 extern "C" {
 #endif
+
+enum { LOADER_STACK = 49152 };
 
 enum {
     LOADER_MAX_STATEMENTS = 48,
