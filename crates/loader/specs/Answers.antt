@@ -2,6 +2,7 @@
 use Prim.Native.Nat.{ℕ}
 use mathlib.Core.Bool.{Bool, true, false}
 use mathlib.Core.List.{List, [], _∷_}
+use lib.ListN.{length}
 use Rattle.refusal.specs.declared.Verdict.{Verdict}
 use Rattle.refusal.specs.declared.Verdict.the-variants.{Fine, Refused}
 use Rattle.refusal.specs.Verdict.{unless}
@@ -14,6 +15,7 @@ use Rattle.search.specs.Search.{searchOf}
 use Rattle.listing.specs.declared.NextPlan.{NextPlan}
 use Rattle.listing.specs.Next.{nextOf}
 use Rattle.eval.specs.declared.Evaluated.{Evaluated}
+use Rattle.plan_names.specs.Names.{selectNameFault, selectNameOf}
 use Rattle.plan_text.specs.declared.Formatted.{Formatted}
 
 -- the number of a refusal, 0 where there is none; its place
@@ -59,3 +61,7 @@ evaluatedWords e = answerOf (e .verdict) (e .count) (bit (e .more))
 -- text: its length
 abbrev pub formattedWords : Formatted → List ℕ
 formattedWords f = answerOf (f .verdict) (f .length) 0
+
+-- a select's name: its length
+abbrev pub nameWords : Plan → List ℕ → List ℕ → ℕ → List ℕ
+nameWords p names ends i = answerOf (selectNameFault p names ends i) (length (selectNameOf p names ends i)) 0

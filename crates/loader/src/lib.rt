@@ -14,9 +14,10 @@ ghost use Rattle.cost.specs.Cost.{costOf};
 ghost use Rattle.plan_check.specs.Check.{checkOf};
 ghost use Rattle.tables.specs.Check.{tablesFault};
 ghost use Rattle.eval.specs.Evaluation.{evaluateOf, bufferAfter};
+ghost use Rattle.plan_names.specs.Names.{selectNameFault};
 ghost use Rattle.plan_text.specs.Answer.{formattedOf, bufferAfter as textAfter};
 ghost use Rattle.words.specs.Words.{planOfWords};
-ghost use Rattle.loader.specs.Answers.{numberOf, placeOf, answerOf, bit, planAfter, orderAfter, plannedOf, foundOf, steppedOf, evaluatedWords, formattedWords};
+ghost use Rattle.loader.specs.Answers.{numberOf, placeOf, answerOf, bit, planAfter, orderAfter, plannedOf, foundOf, steppedOf, evaluatedWords, formattedWords, nameWords};
 
 // How many words an answer has.
 pub const ANSWER_WORDS: usize = 4;
@@ -166,6 +167,25 @@ pub extern "C" fn loader_text(
     let formatted = plan_text::fmt(read, names, ends, out);
     let verdict = formatted.verdict;
     *answer = answer_of(verdict, formatted.length as u64, 0);
+    number_of(verdict)
+}
+
+// How long the name of a select is; it ends where that of the select's slot does. Refusals: the plan check's, 30, 26, 29.
+#[no_mangle]
+pub extern "C" fn loader_select_name<'a>(
+    plan: &[u64; PLAN_WORDS],
+    names: &'a [u8],
+    ends: &[usize],
+    index: usize,
+    answer: &mut [u64; ANSWER_WORDS],
+) -> u64
+    ensures { λ r. ⌜ r ≡ numberOf (selectNameFault (planOfWords (now (plan .entry))) (now (names .entry)) (now (ends .entry)) index) ⌝ }
+    ensures { λ r. ⌜ now (answer .exit) ≡ nameWords (planOfWords (now (plan .entry))) (now (names .entry)) (now (ends .entry)) index ⌝ }
+{
+    let read = words::read_plan(plan);
+    let verdict = plan_names::check_select_name(read, names, ends, index);
+    let name = plan_names::get_select_name(read, names, ends, index);
+    *answer = answer_of(verdict, name.len() as u64, 0);
     number_of(verdict)
 }
 
