@@ -34,7 +34,9 @@ int main(void)
     static uint8_t text[1024];
     static const uint8_t names[] = "heaterswitch";
     static const uint64_t ends[] = { 6, 12, 12 }; /* a slot for each variable and each constant: the constant's name is not read */
+    const uint8_t *name;
     uint64_t rows[1], from = 0;
+    int length;
 
     if (loader_search(&query, order, &plan, &answer) != 0)
         return refused("search", &answer);
@@ -44,11 +46,16 @@ int main(void)
         return refused("text", &answer);
     printf("%.*s\n", (int)answer.first, (const char *)text);
 
+    if (loader_select_name(&plan, names, sizeof names - 1, ends, 3, 0, &answer) != 0)
+        return refused("select_name", &answer);
+    length = (int)answer.first;
+    name = names + ends[plan.select[0]] - answer.first;
+
     do {
         if (loader_evaluate(&plan, aevt, WORDS(aevt), avet, WORDS(avet), eavt, WORDS(eavt), from, rows, WORDS(rows), &answer) != 0)
             return refused("evaluate", &answer);
         for (uint64_t i = 0; i < answer.first; i++)
-            printf("heater %llu\n", (unsigned long long)rows[i]);
+            printf("%.*s %llu\n", length, (const char *)name, (unsigned long long)rows[i]);
         from += answer.first;
     } while (answer.second == 1);
 

@@ -23,6 +23,7 @@ static void cost_it(void) { loader_cost(&stepped, &answer); } /* the full plan c
 static void tables_it(void) { loader_tables(table, 3, table, 3, table, 3, &answer); }
 static void evaluate_it(void) { loader_evaluate(&plan, table, 3, table, 3, table, 3, 0, rows, 64, &answer); }
 static void text_it(void) { loader_text(&plan, (const uint8_t *)"", 0, ends, plan.slot_count, text, sizeof text, &answer); }
+static void name_it(void) { loader_select_name(&plan, (const uint8_t *)"", 0, ends, plan.slot_count, 0, &answer); }
 
 static void (*call)(void);
 static uint8_t *top;
@@ -54,6 +55,7 @@ int main(void)
     static const struct { const char *name; void (*call)(void); } calls[] = {
         { "plan", plan_it }, { "search", search_it }, { "next", next_it }, { "check", check_it }, { "cost", cost_it },
         { "tables", tables_it }, { "evaluate", evaluate_it }, { "text", text_it },
+        { "select_name", name_it },
     };
     size_t most = 0;
     /* 48 statements (variable i, attribute 1, constant 1), so that each scan finds the one fact; six of them for the search. */
