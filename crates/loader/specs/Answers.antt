@@ -7,7 +7,8 @@ use Rattle.refusal.specs.declared.Verdict.{Verdict}
 use Rattle.refusal.specs.declared.Verdict.the-variants.{Fine, Refused}
 use Rattle.refusal.specs.Verdict.{unless}
 use Rattle.plan.specs.declared.Plan.{Plan}
-use Rattle.words.specs.Words.{planOfWords, queryOfWords, wordsOfPlan}
+use Rattle.words.specs.Words.{planOfWords, queryOfWords}
+use Rattle.words.specs.Write.{wordsOfPlan}
 use Rattle.planner.specs.declared.Planned.{Planned}
 use Rattle.planner.specs.Planning.{planOf}
 use Rattle.search.specs.declared.Found.{Found}

@@ -6,7 +6,7 @@ use native.Mathlib.Omega.{arith}
 use native.Mathlib.Numerals.{add-one}
 use lib.ListN.{length, getD, take, drop, set, length-append, take-append-drop, drop-of-length-le}
 use lib.Seq.{sets-eq, take-suc, take-at, take-all, drop-append-add, drop-drop, length-take-le}
-use Rattle.words.specs.Words.{laid, putAt}
+use Rattle.words.specs.Write.{laid, putAt}
 
 -- nothing put is nothing changed
 pub put-none : (ws : List ℕ) (at : ℕ) → ws ≡ putAt at [] ws

@@ -6,7 +6,8 @@ use native.Mathlib.Omega.{arith}
 use lib.ListN.{length, length-append}
 use Rattle.capacity.specs.Capacity.{maxScans, maxSlots, maxSelects}
 use Rattle.plan.specs.declared.Plan.{Plan}
-use Rattle.words.specs.Words.{scanWords, slotWords, scansAt, slotsAt, selectAt, planWords, wordsOfScan, wordsOfSlot, wordsOfSelect, laid, countWords, wordsOfPlan, putAt}
+use Rattle.words.specs.Words.{scanWords, slotWords, scansAt, slotsAt, selectAt, planWords}
+use Rattle.words.specs.Write.{wordsOfScan, wordsOfSlot, wordsOfSelect, laid, countWords, wordsOfPlan, putAt}
 use Rattle.words.proofs.Laid.{put-next, put-all, laid-length}
 
 -- a plan's arrays are as long as their capacities

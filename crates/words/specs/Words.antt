@@ -2,7 +2,7 @@
 use Prim.Native.Nat.{ℕ, zero, suc, _+_, _*_, min}
 use mathlib.Core.Bool.{Bool, true, false, _||_, cond}
 use mathlib.Core.List.{List, [], _∷_, _++_}
-use lib.ListN.{length, getD, take, drop}
+use lib.ListN.{getD}
 use lib.Dec.{ltb, eqb}
 use Rattle.capacity.specs.Capacity.{maxScans, maxSlots, maxSelects, maxStatements}
 use Rattle.plan.specs.declared.Slot.{Slot}
@@ -150,47 +150,3 @@ queryOfWords ws = record {
   «where_statements» = record { items = statementsIn ws; count = word ws 1 };
   select = record { items = variablesIn ws; count = word ws 2 };
 }
-
--- the other way round: the words of an index, a flow, a scan, a slot, a select
-abbrev pub indexWord : Index → ℕ
-indexWord Aevt = 0
-indexWord Avet = 1
-indexWord Eavt = 2
-
-abbrev pub flowWord : Flow → ℕ
-flowWord OutOut = 0
-flowWord InOut = 1
-flowWord InIn = 2
-
-abbrev pub wordsOfScan : Scan → List ℕ
-wordsOfScan s = indexWord (s .index) ∷ flowWord (s .flow) ∷ s .entity .0 ∷ s .attribute .0 ∷ s .value .0 ∷ []
-
-abbrev pub constantWord : SlotDefinition → ℕ
-constantWord Variable = 0
-constantWord (Constant v) = 1
-
-abbrev pub valueWord : SlotDefinition → ℕ
-valueWord Variable = 0
-valueWord (Constant v) = v
-
-abbrev pub wordsOfSlot : SlotRecord → List ℕ
-wordsOfSlot s = constantWord (s .definition) ∷ valueWord (s .definition) ∷ []
-
-abbrev pub wordsOfSelect : Slot → List ℕ
-wordsOfSelect k = k .0 ∷ []
-
--- one after the other
-unfoldable pub laid : {A : Type 0} → (A → List ℕ) → List A → List ℕ
-laid f [] = []
-laid f (x ∷ xs) = f x ++ laid f xs
-
-abbrev pub countWords : Plan → List ℕ
-countWords p = p .«scan_count» ∷ p .«slot_count» ∷ p .«select_count» ∷ []
-
--- the words of a plan
-abbrev pub wordsOfPlan : Plan → List ℕ
-wordsOfPlan p = countWords p ++ laid wordsOfScan (p .scans) ++ laid wordsOfSlot (p .slots) ++ laid wordsOfSelect (p .select)
-
--- words put over those from a place on
-abbrev pub putAt : ℕ → List ℕ → List ℕ → List ℕ
-putAt at new ws = take at ws ++ new ++ drop (at + length new) ws

@@ -5,7 +5,8 @@ use native.Mathlib.Omega.{arith}
 use lib.ListN.{length, take}
 use Rattle.capacity.specs.Capacity.{maxScans}
 use Rattle.plan.specs.Plan.{zeroScan}
-use Rattle.words.specs.Words.{scanWords, planWords, scansAt, laid, putAt, wordsOfScan}
+use Rattle.words.specs.Words.{scanWords, planWords, scansAt}
+use Rattle.words.specs.Write.{laid, putAt, wordsOfScan}
 use Rattle.words.proofs.Laid.{put-none, laid-none, laid-more, laid-all}
 use borrow.Author.Needs.{needs}
 use Rattle.words.proofs.write_scans.Statement.{statement}

@@ -5,7 +5,8 @@ use native.Mathlib.Omega.{arith}
 use lib.ListN.{length, take}
 use Rattle.capacity.specs.Capacity.{maxSelects}
 use Rattle.plan.specs.Plan.{zeroSlot}
-use Rattle.words.specs.Words.{planWords, selectAt, laid, putAt, wordsOfSelect}
+use Rattle.words.specs.Words.{planWords, selectAt}
+use Rattle.words.specs.Write.{laid, putAt, wordsOfSelect}
 use Rattle.words.proofs.Laid.{put-none, laid-none, laid-more, laid-all}
 use borrow.Author.Needs.{needs}
 use Rattle.words.proofs.write_select.Statement.{statement}

@@ -5,7 +5,8 @@ use native.Mathlib.Omega.{arith}
 use lib.ListN.{length, take}
 use Rattle.capacity.specs.Capacity.{maxSlots}
 use Rattle.plan.specs.Plan.{variableSlot}
-use Rattle.words.specs.Words.{slotWords, planWords, slotsAt, laid, putAt, wordsOfSlot}
+use Rattle.words.specs.Words.{slotWords, planWords, slotsAt}
+use Rattle.words.specs.Write.{laid, putAt, wordsOfSlot}
 use Rattle.words.proofs.Laid.{put-none, laid-none, laid-more, laid-all}
 use borrow.Author.Needs.{needs}
 use Rattle.words.proofs.write_slots.Statement.{statement}
