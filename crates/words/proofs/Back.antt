@@ -1,6 +1,6 @@
 -- Reading what was written gives the plan back.
 use mathlib.Core.Path.{_≡_, refl, sym, ap, _∙_}
-use Prim.Native.Nat.{ℕ, zero, suc, _+_, _*_, _<_, _≤_, min}
+use Prim.Native.Nat.{ℕ, zero, suc, _+_, _*_, _<_, _≤_}
 use mathlib.Core.List.{List, [], _∷_, _++_}
 use native.Mathlib.Omega.{arith}
 use native.Mathlib.Nat.{not-suc-le-zero, le-of-suc-le-suc, min-eq-left}
@@ -8,8 +8,6 @@ use lib.ListN.{length, getD, take, List·getD-append}
 use lib.Seq.{getD-append-add, take-suc, take-all}
 use Rattle.capacity.specs.Capacity.{maxScans, maxSlots, maxSelects}
 use Rattle.plan.specs.declared.Slot.{Slot}
-use Rattle.plan.specs.declared.Scan.{Scan}
-use Rattle.plan.specs.declared.SlotRecord.{SlotRecord}
 use Rattle.plan.specs.declared.SlotDefinition.{SlotDefinition}
 use Rattle.plan.specs.declared.SlotDefinition.the-variants.{Variable, Constant}
 use Rattle.plan.specs.declared.Plan.{Plan}

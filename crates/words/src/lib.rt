@@ -28,14 +28,11 @@ use query::Statement;
 use query::Statements;
 use query::Var;
 ghost use mathlib.Core.Path.{_≡_};
-ghost use Prim.Native.Nat.{_+_, _*_, _≤_, _<_, min};
-ghost use mathlib.Core.List.{[], _∷_, _++_};
-ghost use mathlib.Core.Bool.{_||_};
-ghost use lib.Dec.{ltb};
-ghost use lib.ListN.{length, take, drop};
+ghost use Prim.Native.Nat.{_+_, _≤_, _<_, min};
+ghost use lib.ListN.{length};
 ghost use Rattle.capacity.specs.Capacity.{maxScans, maxSlots, maxSelects, maxStatements};
 ghost use Rattle.words.specs.Words.{largest, isNoKind, indexOf, flowOf, definitionOf, valueOf, scanAt, slotAt, selectedAt, statementAt, variableAt, scansIn, slotsIn, selectsIn, statementsIn, variablesIn, planOfWords, queryOfWords, scansAt, slotsAt, selectAt, planWords, scanWords, slotWords};
-ghost use Rattle.words.specs.Write.{indexWord, flowWord, constantWord, valueWord, wordsOfScan, wordsOfSlot, wordsOfSelect, laid, countWords, wordsOfPlan, putAt};
+ghost use Rattle.words.specs.Write.{indexWord, flowWord, constantWord, valueWord, wordsOfScan, wordsOfSlot, wordsOfSelect, laid, wordsOfPlan, putAt};
 
 // Where each part of a plan starts, and how many words a plan has.
 pub const SCAN_WORDS: usize = 5;

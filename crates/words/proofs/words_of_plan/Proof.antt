@@ -1,5 +1,4 @@
 -- `words_of_plan` meets its contract: part after part, the words are the plan's.
-use mathlib.Core.Path.{_≡_, refl}
 use Prim.Native.Nat.{ℕ}
 use lib.ListN.{length-map, replicate, length-replicate}
 use Rattle.words.specs.Words.{planWords}
