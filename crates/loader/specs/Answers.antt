@@ -1,0 +1,68 @@
+-- How an answer stands in four words, and what the words of a plan hold after a call.
+use Prim.Native.Nat.{ℕ}
+use mathlib.Core.Bool.{Bool, true, false}
+use mathlib.Core.List.{List, [], _∷_}
+use lib.ListN.{length}
+use Rattle.refusal.specs.declared.Verdict.{Verdict}
+use Rattle.refusal.specs.declared.Verdict.the-variants.{Fine, Refused}
+use Rattle.refusal.specs.Verdict.{unless}
+use Rattle.plan.specs.declared.Plan.{Plan}
+use Rattle.words.specs.Words.{planOfWords, queryOfWords}
+use Rattle.words.specs.Write.{wordsOfPlan}
+use Rattle.planner.specs.declared.Planned.{Planned}
+use Rattle.planner.specs.Planning.{planOf}
+use Rattle.search.specs.declared.Found.{Found}
+use Rattle.search.specs.Search.{searchOf}
+use Rattle.listing.specs.declared.NextPlan.{NextPlan}
+use Rattle.listing.specs.Next.{nextOf}
+use Rattle.eval.specs.declared.Evaluated.{Evaluated}
+use Rattle.plan_names.specs.Names.{selectNameFault, selectNameOf}
+use Rattle.plan_text.specs.declared.Formatted.{Formatted}
+
+-- the number of a refusal, 0 where there is none; its place
+abbrev pub numberOf : Verdict → ℕ
+numberOf Fine = 0
+numberOf (Refused r) = r .number
+
+abbrev pub placeOf : Verdict → ℕ
+placeOf Fine = 0
+placeOf (Refused r) = r .place
+
+-- number, place, and what else the call answers
+abbrev pub answerOf : Verdict → ℕ → ℕ → List ℕ
+answerOf v first second = numberOf v ∷ placeOf v ∷ first ∷ second ∷ []
+
+-- yes is 1
+abbrev pub bit : Bool → ℕ
+bit true = 1
+bit false = 0
+
+-- the plan's words, or where it is refused what was there
+abbrev pub planAfter : Verdict → Plan → List ℕ → List ℕ
+planAfter v p before = unless v (λ _. before) (wordsOfPlan p)
+
+-- the order, in the same way
+abbrev pub orderAfter : Verdict → List ℕ → List ℕ → List ℕ
+orderAfter v order before = unless v (λ _. before) order
+
+-- what planning, the search and `next` answer of what words say
+abbrev pub plannedOf : List ℕ → Planned
+plannedOf query = planOf (queryOfWords query)
+
+abbrev pub foundOf : List ℕ → Found
+foundOf query = searchOf (queryOfWords query)
+
+abbrev pub steppedOf : List ℕ → NextPlan
+steppedOf plan = nextOf (planOfWords plan)
+
+-- evaluation: how many rows, and whether another follows
+abbrev pub evaluatedWords : Evaluated → List ℕ
+evaluatedWords e = answerOf (e .verdict) (e .count) (bit (e .more))
+
+-- text: its length
+abbrev pub formattedWords : Formatted → List ℕ
+formattedWords f = answerOf (f .verdict) (f .length) 0
+
+-- a select's name: its length
+abbrev pub nameWords : Plan → List ℕ → List ℕ → ℕ → List ℕ
+nameWords p names ends i = answerOf (selectNameFault p names ends i) (length (selectNameOf p names ends i)) 0

@@ -1,0 +1,222 @@
+// The public calls as C functions, for the bootloader; loader/loader.h is their header. Plans and queries are words (crate `words`).
+//
+// Each call answers the refusal's number, 0 where there is none, and writes the whole answer into the four words that are lent for it:
+// the number, the place, and two more that each call names (0 where it has none, or where it is refused). A refused call writes
+// nothing else.
+use capacity::MAX_SEARCHED;
+use refusal::Verdict;
+use words::PLAN_WORDS;
+use words::QUERY_WORDS;
+ghost use mathlib.Core.Path.{_≡_};
+ghost use lib.ListN.{length};
+ghost use Rattle.walk.specs.Steps.{tablesOf};
+ghost use Rattle.cost.specs.Cost.{costOf};
+ghost use Rattle.plan_check.specs.Check.{checkOf};
+ghost use Rattle.tables.specs.Check.{tablesFault};
+ghost use Rattle.eval.specs.Evaluation.{evaluateOf, bufferAfter};
+ghost use Rattle.plan_names.specs.Names.{selectNameFault};
+ghost use Rattle.plan_text.specs.Answer.{formattedOf, bufferAfter as textAfter};
+ghost use Rattle.words.specs.Words.{planOfWords};
+ghost use Rattle.loader.specs.Answers.{numberOf, placeOf, answerOf, bit, planAfter, orderAfter, plannedOf, foundOf, steppedOf, evaluatedWords, formattedWords, nameWords};
+
+// How many words an answer has.
+pub const ANSWER_WORDS: usize = 4;
+
+// Plan a query, its statements in the given order. Refusals 10 to 16.
+#[no_mangle]
+pub extern "C" fn loader_plan(
+    query: &[u64; QUERY_WORDS],
+    plan: &mut [u64; PLAN_WORDS],
+    answer: &mut [u64; ANSWER_WORDS],
+) -> u64
+    ensures { λ r. ⌜ r ≡ numberOf (plannedOf (now (query .entry)) .verdict) ⌝ }
+    ensures { λ r. ⌜ now (answer .exit) ≡ answerOf (plannedOf (now (query .entry)) .verdict) 0 0 ⌝ }
+    ensures { λ r. ⌜ now (plan .exit) ≡ planAfter (plannedOf (now (query .entry)) .verdict) (plannedOf (now (query .entry)) .plan) (now (plan .entry)) ⌝ }
+{
+    let planned = planner::plan(words::read_query(query));
+    let verdict = planned.verdict;
+    *answer = answer_of(verdict, 0, 0);
+    if let Verdict::Refused(_) = verdict {
+        return number_of(verdict);
+    }
+    let found = planned.plan;
+    *plan = words::words_of_plan(found);
+    0
+}
+
+// The cheapest plan of a query, and the order of its statements. Answers the cost. Refusals 10 to 15, 17, 18.
+#[no_mangle]
+pub extern "C" fn loader_search(
+    query: &[u64; QUERY_WORDS],
+    order: &mut [usize; MAX_SEARCHED],
+    plan: &mut [u64; PLAN_WORDS],
+    answer: &mut [u64; ANSWER_WORDS],
+) -> u64
+    ensures { λ r. ⌜ r ≡ numberOf (foundOf (now (query .entry)) .verdict) ⌝ }
+    ensures { λ r. ⌜ now (answer .exit) ≡ answerOf (foundOf (now (query .entry)) .verdict) (foundOf (now (query .entry)) .cost) 0 ⌝ }
+    ensures { λ r. ⌜ now (order .exit) ≡ orderAfter (foundOf (now (query .entry)) .verdict) (foundOf (now (query .entry)) .order) (now (order .entry)) ⌝ }
+    ensures { λ r. ⌜ now (plan .exit) ≡ planAfter (foundOf (now (query .entry)) .verdict) (foundOf (now (query .entry)) .plan) (now (plan .entry)) ⌝ }
+{
+    let found = search::search(words::read_query(query));
+    let verdict = found.verdict;
+    *answer = answer_of(verdict, found.cost, 0);
+    if let Verdict::Refused(_) = verdict {
+        return number_of(verdict);
+    }
+    let cheapest = found.plan;
+    let arranged = found.order;
+    *order = arranged;
+    *plan = words::words_of_plan(cheapest);
+    0
+}
+
+// Step a plan to the next one. Answers 1 where it is new, and 0 where the initial plan stands again. Refusals 20, 21.
+#[no_mangle]
+pub extern "C" fn loader_next(plan: &mut [u64; PLAN_WORDS], answer: &mut [u64; ANSWER_WORDS]) -> u64
+    ensures { λ r. ⌜ r ≡ numberOf (steppedOf (now (plan .entry)) .verdict) ⌝ }
+    ensures { λ r. ⌜ now (answer .exit) ≡ answerOf (steppedOf (now (plan .entry)) .verdict) (bit (steppedOf (now (plan .entry)) .«is_new»)) 0 ⌝ }
+    ensures { λ r. ⌜ now (plan .exit) ≡ planAfter (steppedOf (now (plan .entry)) .verdict) (steppedOf (now (plan .entry)) .plan) (now (plan .entry)) ⌝ }
+{
+    let stepped = listing::next(words::read_plan(plan));
+    let verdict = stepped.verdict;
+    *answer = answer_of(verdict, bit_of(stepped.is_new), 0);
+    if let Verdict::Refused(_) = verdict {
+        return number_of(verdict);
+    }
+    let next = stepped.plan;
+    *plan = words::words_of_plan(next);
+    0
+}
+
+// The plan check. Refusals 20, 13, 21 to 26.
+#[no_mangle]
+pub extern "C" fn loader_check(plan: &[u64; PLAN_WORDS], answer: &mut [u64; ANSWER_WORDS]) -> u64
+    ensures { λ r. ⌜ r ≡ numberOf (checkOf (planOfWords (now (plan .entry)))) ⌝ }
+    ensures { λ r. ⌜ now (answer .exit) ≡ answerOf (checkOf (planOfWords (now (plan .entry)))) 0 0 ⌝ }
+{
+    let verdict = plan_check::check_invariants(words::read_plan(plan));
+    *answer = answer_of(verdict, 0, 0);
+    number_of(verdict)
+}
+
+// The cost of a plan. Answers it. Refusals 20, 21, 27.
+#[no_mangle]
+pub extern "C" fn loader_cost(plan: &[u64; PLAN_WORDS], answer: &mut [u64; ANSWER_WORDS]) -> u64
+    ensures { λ r. ⌜ r ≡ numberOf (costOf (planOfWords (now (plan .entry))) .verdict) ⌝ }
+    ensures { λ r. ⌜ now (answer .exit) ≡ answerOf (costOf (planOfWords (now (plan .entry))) .verdict) (costOf (planOfWords (now (plan .entry))) .cost) 0 ⌝ }
+{
+    let costed = cost::cost(words::read_plan(plan));
+    let verdict = costed.verdict;
+    *answer = answer_of(verdict, costed.cost, 0);
+    number_of(verdict)
+}
+
+// The check of three tables. Refusals 1 to 3.
+#[no_mangle]
+pub extern "C" fn loader_tables(
+    aevt: &[u64],
+    avet: &[u64],
+    eavt: &[u64],
+    answer: &mut [u64; ANSWER_WORDS],
+) -> u64
+    ensures { λ r. ⌜ r ≡ numberOf (tablesFault (now (aevt .entry)) (now (avet .entry)) (now (eavt .entry))) ⌝ }
+    ensures { λ r. ⌜ now (answer .exit) ≡ answerOf (tablesFault (now (aevt .entry)) (now (avet .entry)) (now (eavt .entry))) 0 0 ⌝ }
+{
+    let verdict = tables::check_tables(aevt, avet, eavt);
+    *answer = answer_of(verdict, 0, 0);
+    number_of(verdict)
+}
+
+// Evaluate a plan over three tables: its rows from number `from` on, as many whole ones as fit. Answers how many, and 1 where
+// another follows. Refusals: the plan check's, 28, 1 to 3.
+#[no_mangle]
+pub extern "C" fn loader_evaluate<'a>(
+    plan: &[u64; PLAN_WORDS],
+    aevt: &'a [u64],
+    avet: &'a [u64],
+    eavt: &'a [u64],
+    from: u64,
+    rows: &mut [u64],
+    answer: &mut [u64; ANSWER_WORDS],
+) -> u64
+    ensures { λ r. ⌜ r ≡ numberOf (evaluateOf (planOfWords (now (plan .entry))) (tablesOf (now (aevt .entry)) (now (avet .entry)) (now (eavt .entry))) from (length (now (rows .entry))) .verdict) ⌝ }
+    ensures { λ r. ⌜ now (answer .exit) ≡ evaluatedWords (evaluateOf (planOfWords (now (plan .entry))) (tablesOf (now (aevt .entry)) (now (avet .entry)) (now (eavt .entry))) from (length (now (rows .entry)))) ⌝ }
+    ensures { λ r. ⌜ now (rows .exit) ≡ bufferAfter (planOfWords (now (plan .entry))) (tablesOf (now (aevt .entry)) (now (avet .entry)) (now (eavt .entry))) from (now (rows .entry)) ⌝ }
+{
+    let read = words::read_plan(plan);
+    let evaluated = eval::evaluate(read, aevt, avet, eavt, from, rows);
+    let verdict = evaluated.verdict;
+    *answer = answer_of(verdict, evaluated.count as u64, bit_of(evaluated.more));
+    number_of(verdict)
+}
+
+// The text of a plan, with a name for each slot. Answers its length. Refusals: the plan check's, 30, 31.
+#[no_mangle]
+pub extern "C" fn loader_text(
+    plan: &[u64; PLAN_WORDS],
+    names: &[u8],
+    ends: &[usize],
+    out: &mut [u8],
+    answer: &mut [u64; ANSWER_WORDS],
+) -> u64
+    ensures { λ r. ⌜ r ≡ numberOf (formattedOf (planOfWords (now (plan .entry))) (now (names .entry)) (now (ends .entry)) (length (now (out .entry))) .verdict) ⌝ }
+    ensures { λ r. ⌜ now (answer .exit) ≡ formattedWords (formattedOf (planOfWords (now (plan .entry))) (now (names .entry)) (now (ends .entry)) (length (now (out .entry)))) ⌝ }
+    ensures { λ r. ⌜ now (out .exit) ≡ textAfter (planOfWords (now (plan .entry))) (now (names .entry)) (now (ends .entry)) (now (out .entry)) ⌝ }
+{
+    let read = words::read_plan(plan);
+    let formatted = plan_text::fmt(read, names, ends, out);
+    let verdict = formatted.verdict;
+    *answer = answer_of(verdict, formatted.length as u64, 0);
+    number_of(verdict)
+}
+
+// How long the name of a select is; it ends where that of the select's slot does. Refusals: the plan check's, 30, 26, 29.
+#[no_mangle]
+pub extern "C" fn loader_select_name<'a>(
+    plan: &[u64; PLAN_WORDS],
+    names: &'a [u8],
+    ends: &[usize],
+    index: usize,
+    answer: &mut [u64; ANSWER_WORDS],
+) -> u64
+    ensures { λ r. ⌜ r ≡ numberOf (selectNameFault (planOfWords (now (plan .entry))) (now (names .entry)) (now (ends .entry)) index) ⌝ }
+    ensures { λ r. ⌜ now (answer .exit) ≡ nameWords (planOfWords (now (plan .entry))) (now (names .entry)) (now (ends .entry)) index ⌝ }
+{
+    let read = words::read_plan(plan);
+    let verdict = plan_names::check_select_name(read, names, ends, index);
+    let name = plan_names::get_select_name(read, names, ends, index);
+    *answer = answer_of(verdict, name.len() as u64, 0);
+    number_of(verdict)
+}
+
+// The number of a refusal, 0 where there is none; its place.
+fn number_of(verdict: Verdict) -> u64
+    ensures { λ r. ⌜ r ≡ numberOf verdict ⌝ }
+{
+    match verdict {
+        Verdict::Fine => 0,
+        Verdict::Refused(r) => r.number as u64,
+    }
+}
+
+fn place_of(verdict: Verdict) -> u64
+    ensures { λ r. ⌜ r ≡ placeOf verdict ⌝ }
+{
+    match verdict {
+        Verdict::Fine => 0,
+        Verdict::Refused(r) => r.place as u64,
+    }
+}
+
+// The words of an answer.
+fn answer_of(verdict: Verdict, first: u64, second: u64) -> [u64; ANSWER_WORDS]
+    ensures { λ r. ⌜ r ≡ answerOf verdict first second ⌝ }
+{
+    [number_of(verdict), place_of(verdict), first, second]
+}
+
+fn bit_of(said: bool) -> u64
+    ensures { λ r. ⌜ r ≡ bit said ⌝ }
+{
+    if said { 1 } else { 0 }
+}

@@ -1,0 +1,4 @@
+pub mod Tabled
+pub mod Laid
+pub mod Written
+pub mod Back

@@ -1,0 +1,28 @@
+-- An array that is filled from the front with f 0, f 1 and so on.
+use mathlib.Core.Path.{_≡_, refl, sym, _∙_}
+use Prim.Native.Nat.{ℕ, zero, suc, _+_, _<_}
+use mathlib.Core.List.{List, []}
+use native.Mathlib.Numerals.{add-one}
+use native.Mathlib.Omega.{arith}
+use lib.ListN.{length, set, take, length-append}
+use lib.Seq.{take-suc-set, take-all}
+use Rattle.words.specs.Words.{tabled}
+
+module _ {A : Type 0} (f : ℕ → A) where
+  pub tabled-none : [] ≡ tabled f 0
+  unfolding tabled
+  tabled-none = refl
+
+  -- one element more
+  pub tabled-more : (l : List A) (i : ℕ) (v : A) → i < length l → v ≡ f i → take i l ≡ tabled f i → take (i + 1) (set l i v) ≡ tabled f (i + 1)
+  unfolding tabled
+  tabled-more l i v h e done = rw (add-one, take-suc-set l i v h, done, e)
+
+  -- and all
+  pub tabled-all : (l : List A) (i n : ℕ) → length l ≡ n → i ≡ n → take i l ≡ tabled f i → l ≡ tabled f n
+  tabled-all l i n h e done = sym (take-all n l (omega arith)) ∙ rw (← e) done
+
+  pub tabled-length : (n : ℕ) → length (tabled f n) ≡ n
+  unfolding tabled
+  tabled-length zero = refl
+  tabled-length (suc n) = length-append (tabled f n) _ ∙ rw (tabled-length n) (omega arith)

@@ -1,0 +1,58 @@
+-- How a plan is written as words: the other way round of Words.antt.
+use Prim.Native.Nat.{ℕ, _+_}
+use mathlib.Core.List.{List, [], _∷_, _++_}
+use lib.ListN.{length, take, drop}
+use Rattle.plan.specs.declared.Slot.{Slot}
+use Rattle.plan.specs.declared.Scan.{Scan}
+use Rattle.plan.specs.declared.SlotRecord.{SlotRecord}
+use Rattle.plan.specs.declared.SlotDefinition.{SlotDefinition}
+use Rattle.plan.specs.declared.SlotDefinition.the-variants.{Variable, Constant}
+use Rattle.plan.specs.declared.Plan.{Plan}
+use Rattle.plan.specs.declared.Index.{Index}
+use Rattle.plan.specs.declared.Index.the-variants.{Aevt, Avet, Eavt}
+use Rattle.plan.specs.declared.Flow.{Flow}
+use Rattle.plan.specs.declared.Flow.the-variants.{OutOut, InOut, InIn}
+
+-- the words of an index, a flow, a scan, a slot, a select
+abbrev pub indexWord : Index → ℕ
+indexWord Aevt = 0
+indexWord Avet = 1
+indexWord Eavt = 2
+
+abbrev pub flowWord : Flow → ℕ
+flowWord OutOut = 0
+flowWord InOut = 1
+flowWord InIn = 2
+
+abbrev pub wordsOfScan : Scan → List ℕ
+wordsOfScan s = indexWord (s .index) ∷ flowWord (s .flow) ∷ s .entity .0 ∷ s .attribute .0 ∷ s .value .0 ∷ []
+
+abbrev pub constantWord : SlotDefinition → ℕ
+constantWord Variable = 0
+constantWord (Constant v) = 1
+
+abbrev pub valueWord : SlotDefinition → ℕ
+valueWord Variable = 0
+valueWord (Constant v) = v
+
+abbrev pub wordsOfSlot : SlotRecord → List ℕ
+wordsOfSlot s = constantWord (s .definition) ∷ valueWord (s .definition) ∷ []
+
+abbrev pub wordsOfSelect : Slot → List ℕ
+wordsOfSelect k = k .0 ∷ []
+
+-- one after the other
+unfoldable pub laid : {A : Type 0} → (A → List ℕ) → List A → List ℕ
+laid f [] = []
+laid f (x ∷ xs) = f x ++ laid f xs
+
+abbrev pub countWords : Plan → List ℕ
+countWords p = p .«scan_count» ∷ p .«slot_count» ∷ p .«select_count» ∷ []
+
+-- the words of a plan
+abbrev pub wordsOfPlan : Plan → List ℕ
+wordsOfPlan p = countWords p ++ laid wordsOfScan (p .scans) ++ laid wordsOfSlot (p .slots) ++ laid wordsOfSelect (p .select)
+
+-- words put over those from a place on
+abbrev pub putAt : ℕ → List ℕ → List ℕ → List ℕ
+putAt at new ws = take at ws ++ new ++ drop (at + length new) ws

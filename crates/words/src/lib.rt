@@ -1,0 +1,409 @@
+// Plans and queries as words, for callers in other languages: each is an array of u64 with every number at a fixed place.
+//
+// A plan: its counts of scans, slots and selects; then room for MAX_SCANS scans of five words (index 0 aevt, 1 avet, 2 eavt; flow 0
+// out-out, 1 in-out, 2 in-in; entity's slot, attribute, value's slot), for MAX_SLOTS slots of two (1 for a constant, else 0; its value),
+// and for MAX_SELECTS selects of one (the slot).
+//
+// A query: its counts of variables, statements and selects; then room for MAX_STATEMENTS statements of four words (entity's
+// variable, attribute, 1 for a constant, else 0; the constant or the value's variable), and for MAX_SELECTS selects of one (the variable).
+//
+// Any words say a plan, and any say a query. Words that no plan of the planner has are read so that the plan check refuses them:
+// see specs/Words.antt.
+use capacity::MAX_SCANS;
+use capacity::MAX_SELECTS;
+use capacity::MAX_SLOTS;
+use capacity::MAX_STATEMENTS;
+use datom::Aid;
+use plan::Flow;
+use plan::Index;
+use plan::Plan;
+use plan::Scan;
+use plan::Slot;
+use plan::SlotDefinition;
+use plan::SlotRecord;
+use query::Query;
+use query::QueryValue;
+use query::Selects;
+use query::Statement;
+use query::Statements;
+use query::Var;
+ghost use mathlib.Core.Path.{_≡_};
+ghost use Prim.Native.Nat.{_+_, _≤_, _<_, min};
+ghost use lib.ListN.{length};
+ghost use Rattle.capacity.specs.Capacity.{maxScans, maxSlots, maxSelects, maxStatements};
+ghost use Rattle.words.specs.Words.{largest, isNoKind, indexOf, flowOf, definitionOf, valueOf, scanAt, slotAt, selectedAt, statementAt, variableAt, scansIn, slotsIn, selectsIn, statementsIn, variablesIn, planOfWords, queryOfWords, scansAt, slotsAt, selectAt, planWords, scanWords, slotWords};
+ghost use Rattle.words.specs.Write.{indexWord, flowWord, constantWord, valueWord, wordsOfScan, wordsOfSlot, wordsOfSelect, laid, wordsOfPlan, putAt};
+
+// Where each part of a plan starts, and how many words a plan has.
+pub const SCAN_WORDS: usize = 5;
+
+pub const SLOT_WORDS: usize = 2;
+
+const SCANS_AT: usize = 3;
+
+const SLOTS_AT: usize = SCANS_AT + SCAN_WORDS * MAX_SCANS;
+
+const SELECT_AT: usize = SLOTS_AT + SLOT_WORDS * MAX_SLOTS;
+
+pub const PLAN_WORDS: usize = SELECT_AT + MAX_SELECTS;
+
+// The same of a query.
+pub const STATEMENT_WORDS: usize = 4;
+
+const STATEMENTS_AT: usize = 3;
+
+const VARIABLES_AT: usize = STATEMENTS_AT + STATEMENT_WORDS * MAX_STATEMENTS;
+
+pub const QUERY_WORDS: usize = VARIABLES_AT + MAX_SELECTS;
+
+// The largest number of a slot or a variable: no plan has so many slots, and no query so many variables.
+const LARGEST: u64 = 65535;
+
+// The plan that the words say.
+pub fn read_plan(words: &[u64; PLAN_WORDS]) -> Plan
+    ensures { λ r. ⌜ r ≡ planOfWords (now (words .entry)) ⌝ }
+{
+    let scans = read_scans(words);
+    let slots = read_slots(words);
+    let select = read_select(words);
+    Plan {
+        scans,
+        scan_count: words[0] as usize,
+        slots,
+        slot_count: words[1] as usize,
+        select,
+        select_count: words[2] as usize,
+    }
+}
+
+// The query that the words say.
+pub fn read_query(words: &[u64; QUERY_WORDS]) -> Query
+    ensures { λ r. ⌜ r ≡ queryOfWords (now (words .entry)) ⌝ }
+{
+    let statements = read_statements(words);
+    let variables = read_variables(words);
+    Query {
+        variable_count: words[0],
+        where_statements: Statements {
+            items: statements,
+            count: words[1] as usize,
+        },
+        select: Selects {
+            items: variables,
+            count: words[2] as usize,
+        },
+    }
+}
+
+const ZERO_SCAN: Scan = Scan {
+    index: Index::Aevt,
+    flow: Flow::OutOut,
+    entity: Slot(0),
+    attribute: Aid(0),
+    value: Slot(0),
+};
+
+const VARIABLE: SlotRecord = SlotRecord {
+    definition: SlotDefinition::Variable,
+};
+
+const ZERO_STATEMENT: Statement = Statement {
+    entity: Var(0),
+    attribute: Aid(0),
+    value: QueryValue::Const(0),
+};
+
+fn read_scans(words: &[u64; PLAN_WORDS]) -> [Scan; MAX_SCANS]
+    ensures { λ r. ⌜ r ≡ scansIn (now (words .entry)) ⌝ }
+{
+    let mut scans = [ZERO_SCAN; MAX_SCANS];
+    let mut i: usize = 0;
+    while i < MAX_SCANS {
+        scans[i] = read_scan(words, i);
+        i += 1;
+    }
+    scans
+}
+
+fn read_slots(words: &[u64; PLAN_WORDS]) -> [SlotRecord; MAX_SLOTS]
+    ensures { λ r. ⌜ r ≡ slotsIn (now (words .entry)) ⌝ }
+{
+    let mut slots = [VARIABLE; MAX_SLOTS];
+    let mut i: usize = 0;
+    while i < MAX_SLOTS {
+        slots[i] = read_slot(words, i);
+        i += 1;
+    }
+    slots
+}
+
+fn read_select(words: &[u64; PLAN_WORDS]) -> [Slot; MAX_SELECTS]
+    ensures { λ r. ⌜ r ≡ selectsIn (now (words .entry)) ⌝ }
+{
+    let mut select = [Slot(0); MAX_SELECTS];
+    let mut i: usize = 0;
+    while i < MAX_SELECTS {
+        select[i] = read_selected(words, i);
+        i += 1;
+    }
+    select
+}
+
+fn read_statements(words: &[u64; QUERY_WORDS]) -> [Statement; MAX_STATEMENTS]
+    ensures { λ r. ⌜ r ≡ statementsIn (now (words .entry)) ⌝ }
+{
+    let mut statements = [ZERO_STATEMENT; MAX_STATEMENTS];
+    let mut i: usize = 0;
+    while i < MAX_STATEMENTS {
+        statements[i] = read_statement(words, i);
+        i += 1;
+    }
+    statements
+}
+
+fn read_variables(words: &[u64; QUERY_WORDS]) -> [Var; MAX_SELECTS]
+    ensures { λ r. ⌜ r ≡ variablesIn (now (words .entry)) ⌝ }
+{
+    let mut select = [Var(0); MAX_SELECTS];
+    let mut i: usize = 0;
+    while i < MAX_SELECTS {
+        select[i] = read_variable(words, i);
+        i += 1;
+    }
+    select
+}
+
+fn read_scan(words: &[u64; PLAN_WORDS], i: usize) -> Scan
+    requires { ⌜ i < maxScans ⌝ }
+    ensures { λ r. ⌜ r ≡ scanAt (now (words .entry)) i ⌝ }
+{
+    let at = SCANS_AT + SCAN_WORDS * i;
+    let index = words[at];
+    let flow = words[at + 1];
+    Scan {
+        index: index_of(index, flow),
+        flow: flow_of(index, flow),
+        entity: Slot(short(words[at + 2])),
+        attribute: Aid(words[at + 3]),
+        value: Slot(short(words[at + 4])),
+    }
+}
+
+fn read_slot(words: &[u64; PLAN_WORDS], i: usize) -> SlotRecord
+    requires { ⌜ i < maxSlots ⌝ }
+    ensures { λ r. ⌜ r ≡ slotAt (now (words .entry)) i ⌝ }
+{
+    let at = SLOTS_AT + SLOT_WORDS * i;
+    SlotRecord {
+        definition: definition_of(words[at], words[at + 1]),
+    }
+}
+
+fn read_selected(words: &[u64; PLAN_WORDS], i: usize) -> Slot
+    requires { ⌜ i < maxSelects ⌝ }
+    ensures { λ r. ⌜ r ≡ selectedAt (now (words .entry)) i ⌝ }
+{
+    Slot(short(words[SELECT_AT + i]))
+}
+
+fn read_statement(words: &[u64; QUERY_WORDS], i: usize) -> Statement
+    requires { ⌜ i < maxStatements ⌝ }
+    ensures { λ r. ⌜ r ≡ statementAt (now (words .entry)) i ⌝ }
+{
+    let at = STATEMENTS_AT + STATEMENT_WORDS * i;
+    Statement {
+        entity: Var(short(words[at])),
+        attribute: Aid(words[at + 1]),
+        value: value_of(words[at + 2], words[at + 3]),
+    }
+}
+
+fn read_variable(words: &[u64; QUERY_WORDS], i: usize) -> Var
+    requires { ⌜ i < maxSelects ⌝ }
+    ensures { λ r. ⌜ r ≡ variableAt (now (words .entry)) i ⌝ }
+{
+    Var(short(words[VARIABLES_AT + i]))
+}
+
+// A slot's or a variable's number. One that is too large is read as the largest, which names no slot and no variable either.
+fn short(word: u64) -> u16
+    ensures { λ r. ⌜ r ≡ min word largest ⌝ }
+{
+    if word < LARGEST { word as u16 } else { 65535 }
+}
+
+// Whether the words of an index and a flow are not such.
+fn is_no_kind(index: u64, flow: u64) -> bool
+    ensures { λ r. ⌜ r ≡ isNoKind index flow ⌝ }
+{
+    2 < index || 2 < flow
+}
+
+fn index_of(index: u64, flow: u64) -> Index
+    ensures { λ r. ⌜ r ≡ indexOf index flow ⌝ }
+{
+    if is_no_kind(index, flow) {
+        return Index::Eavt;
+    }
+    if index == 0 {
+        return Index::Aevt;
+    }
+    if index == 1 {
+        return Index::Avet;
+    }
+    Index::Eavt
+}
+
+fn flow_of(index: u64, flow: u64) -> Flow
+    ensures { λ r. ⌜ r ≡ flowOf index flow ⌝ }
+{
+    if is_no_kind(index, flow) {
+        return Flow::OutOut;
+    }
+    if flow == 0 {
+        return Flow::OutOut;
+    }
+    if flow == 1 {
+        return Flow::InOut;
+    }
+    Flow::InIn
+}
+
+fn definition_of(is_constant: u64, value: u64) -> SlotDefinition
+    ensures { λ r. ⌜ r ≡ definitionOf «is_constant» value ⌝ }
+{
+    if is_constant == 1 {
+        return SlotDefinition::Constant(value);
+    }
+    SlotDefinition::Variable
+}
+
+fn value_of(is_constant: u64, value: u64) -> QueryValue
+    ensures { λ r. ⌜ r ≡ valueOf «is_constant» value ⌝ }
+{
+    if is_constant == 1 {
+        return QueryValue::Const(value);
+    }
+    if is_constant == 0 {
+        return QueryValue::Var(Var(short(value)));
+    }
+    QueryValue::Var(Var(65535))
+}
+
+// The words of a plan.
+pub fn words_of_plan(plan: Plan) -> [u64; PLAN_WORDS]
+    ensures { λ r. ⌜ r ≡ wordsOfPlan plan ⌝ }
+{
+    let scans = plan.scans;
+    let slots = plan.slots;
+    let select = plan.select;
+    let mut words = [0u64; PLAN_WORDS];
+    words[0] = plan.scan_count as u64;
+    words[1] = plan.slot_count as u64;
+    words[2] = plan.select_count as u64;
+    write_scans(scans, &mut words);
+    write_slots(slots, &mut words);
+    write_select(select, &mut words);
+    words
+}
+
+fn write_scans(scans: [Scan; MAX_SCANS], words: &mut [u64])
+    requires { ⌜ length (now words) ≡ planWords ⌝ }
+    ensures { λ r. ⌜ now (words .exit) ≡ putAt scansAt (laid wordsOfScan scans) (now (words .entry)) ⌝ }
+{
+    let mut i: usize = 0;
+    while i < MAX_SCANS {
+        write_scan(scans[i], SCANS_AT + SCAN_WORDS * i, words);
+        i += 1;
+    }
+}
+
+fn write_slots(slots: [SlotRecord; MAX_SLOTS], words: &mut [u64])
+    requires { ⌜ length (now words) ≡ planWords ⌝ }
+    ensures { λ r. ⌜ now (words .exit) ≡ putAt slotsAt (laid wordsOfSlot slots) (now (words .entry)) ⌝ }
+{
+    let mut i: usize = 0;
+    while i < MAX_SLOTS {
+        write_slot(slots[i], SLOTS_AT + SLOT_WORDS * i, words);
+        i += 1;
+    }
+}
+
+fn write_select(select: [Slot; MAX_SELECTS], words: &mut [u64])
+    requires { ⌜ length (now words) ≡ planWords ⌝ }
+    ensures { λ r. ⌜ now (words .exit) ≡ putAt selectAt (laid wordsOfSelect select) (now (words .entry)) ⌝ }
+{
+    let mut i: usize = 0;
+    while i < MAX_SELECTS {
+        write_selected(select[i], SELECT_AT + i, words);
+        i += 1;
+    }
+}
+
+// Write a scan's words, from `at` on; a slot's; a select's.
+fn write_scan(scan: Scan, at: usize, words: &mut [u64])
+    requires { ⌜ at + scanWords ≤ length (now words) ⌝ }
+    ensures { λ r. ⌜ now (words .exit) ≡ putAt at (wordsOfScan scan) (now (words .entry)) ⌝ }
+{
+    let index = scan.index;
+    let flow = scan.flow;
+    words[at] = index_word(index);
+    words[at + 1] = flow_word(flow);
+    words[at + 2] = scan.entity.0 as u64;
+    words[at + 3] = scan.attribute.0;
+    words[at + 4] = scan.value.0 as u64;
+}
+
+fn write_slot(slot: SlotRecord, at: usize, words: &mut [u64])
+    requires { ⌜ at + slotWords ≤ length (now words) ⌝ }
+    ensures { λ r. ⌜ now (words .exit) ≡ putAt at (wordsOfSlot slot) (now (words .entry)) ⌝ }
+{
+    let definition = slot.definition;
+    words[at] = constant_word(definition);
+    words[at + 1] = value_word(definition);
+}
+
+fn write_selected(slot: Slot, at: usize, words: &mut [u64])
+    requires { ⌜ at + 1 ≤ length (now words) ⌝ }
+    ensures { λ r. ⌜ now (words .exit) ≡ putAt at (wordsOfSelect slot) (now (words .entry)) ⌝ }
+{
+    words[at] = slot.0 as u64;
+}
+
+fn index_word(index: Index) -> u64
+    ensures { λ r. ⌜ r ≡ indexWord index ⌝ }
+{
+    match index {
+        Index::Aevt => 0,
+        Index::Avet => 1,
+        Index::Eavt => 2,
+    }
+}
+
+fn flow_word(flow: Flow) -> u64
+    ensures { λ r. ⌜ r ≡ flowWord flow ⌝ }
+{
+    match flow {
+        Flow::OutOut => 0,
+        Flow::InOut => 1,
+        Flow::InIn => 2,
+    }
+}
+
+fn constant_word(definition: SlotDefinition) -> u64
+    ensures { λ r. ⌜ r ≡ constantWord definition ⌝ }
+{
+    match definition {
+        SlotDefinition::Variable => 0,
+        SlotDefinition::Constant(_) => 1,
+    }
+}
+
+fn value_word(definition: SlotDefinition) -> u64
+    ensures { λ r. ⌜ r ≡ valueWord definition ⌝ }
+{
+    match definition {
+        SlotDefinition::Variable => 0,
+        SlotDefinition::Constant(value) => value,
+    }
+}

@@ -1,0 +1,70 @@
+/* Which heater has its level switch bridged? Plans the question, prints the plan's text and cost, and evaluates it, a row at a
+   time. Attribute 1: a heater's level switch. Attribute 2: a switch's state, 9 is bridged. */
+#include "loader.h"
+#include <stdio.h>
+
+enum { LEVEL_SWITCH = 1, STATE = 2, BRIDGED = 9 };
+
+/* The facts, three words each and sorted: heaters 10, 11, 12 have switches 20, 21, 22, of which 20 and 22 are bridged. */
+static const uint64_t aevt[] = { 1, 10, 20,  1, 11, 21,  1, 12, 22,  2, 20, 9,  2, 21, 8,  2, 22, 9 };
+static const uint64_t avet[] = { 1, 20, 10,  1, 21, 11,  1, 22, 12,  2, 8, 21,  2, 9, 20,  2, 9, 22 };
+static const uint64_t eavt[] = { 10, 1, 20,  11, 1, 21,  12, 1, 22,  20, 2, 9,  21, 2, 8,  22, 2, 9 };
+#define WORDS(table) (sizeof (table) / sizeof (uint64_t))
+
+static int refused(const char *call, const struct loader_answer *answer)
+{
+    printf("%s refused: number %llu, place %llu\n", call, (unsigned long long)answer->number, (unsigned long long)answer->place);
+    return 1;
+}
+
+int main(void)
+{
+    /* Variable 0 is the heater, variable 1 its switch: (heater, LEVEL_SWITCH, switch), (switch, STATE, BRIDGED); select the heater. */
+    static struct loader_query query = {
+        .variable_count = 2, .statement_count = 2, .select_count = 1,
+        .statements = {
+            { .entity = 0, .attribute = LEVEL_SWITCH, .is_constant = 0, .value = 1 },
+            { .entity = 1, .attribute = STATE, .is_constant = 1, .value = BRIDGED },
+        },
+        .select = { 0 },
+    };
+    static struct loader_plan plan;
+    static struct loader_answer answer;
+    static uint64_t order[LOADER_MAX_SEARCHED];
+    static uint8_t text[1024];
+    static const uint8_t names[] = "heaterswitch";
+    static const uint64_t ends[] = { 6, 12, 12 }; /* a slot for each variable and each constant: the constant's name is not read */
+    const uint8_t *name;
+    uint64_t rows[1], from = 0;
+    int length;
+
+    if (loader_search(&query, order, &plan, &answer) != 0)
+        return refused("search", &answer);
+    printf("cost %llu\n", (unsigned long long)answer.first);
+
+    if (loader_text(&plan, names, sizeof names - 1, ends, 3, text, sizeof text, &answer) != 0)
+        return refused("text", &answer);
+    printf("%.*s\n", (int)answer.first, (const char *)text);
+
+    if (loader_select_name(&plan, names, sizeof names - 1, ends, 3, 0, &answer) != 0)
+        return refused("select_name", &answer);
+    length = (int)answer.first;
+    name = names + ends[plan.select[0]] - answer.first;
+
+    do {
+        if (loader_evaluate(&plan, aevt, WORDS(aevt), avet, WORDS(avet), eavt, WORDS(eavt), from, rows, WORDS(rows), &answer) != 0)
+            return refused("evaluate", &answer);
+        for (uint64_t i = 0; i < answer.first; i++)
+            printf("%.*s %llu\n", length, (const char *)name, (unsigned long long)rows[i]);
+        from += answer.first;
+    } while (answer.second == 1);
+
+    /* What is wrong is refused with a number, and the plan stays as it was. */
+    query.statements[1].entity = 7;
+    if (loader_plan(&query, &plan, &answer) != 0)
+        refused("plan", &answer);
+    plan.scans[1].flow = 3;
+    if (loader_cost(&plan, &answer) != 0)
+        refused("cost", &answer);
+    return 0;
+}

@@ -1,0 +1,172 @@
+/* The query planner and evaluator for the bootloader: the public calls from C. Link target/staticlib/libloader.a (`rt staticlib loader`).
+
+   Every call is proved to return, for any words, and to do exactly what is said here (crates/loader, docs/PROMISES.md). What the proof
+   takes for granted is C's part, and yours:
+   - Each pointer to a struct or an array points to a whole one; each pointer with a length to so many elements, aligned, also where the
+     length is 0 (then any pointer but NULL will do).
+   - What a call writes (no `const`) overlaps nothing else that the same call is given.
+   - No other thread or interrupt writes what a call is given while it runs.
+
+   The archive asks for memcpy, memmove and memset, and for nothing else. Its code may use the SSE registers and the 128 bytes below the
+   stack pointer, as the System V convention allows: a bootloader turns SSE on first, and takes interrupts on another stack.
+
+   Nothing is kept: everything is lent for the time of the call and stays yours. Nothing is allocated, and there is no global state, so
+   that calls may run at the same time on different buffers. x86-64, System V calling convention.
+
+   Stack: no call takes more than LOADER_STACK bytes (loader/run measures it).
+
+   A refused call writes its answer, and nothing else: plan, order, rows and text stay as they were. */
+#ifndef LOADER_H
+#define LOADER_H
+#include <stddef.h>
+#include <stdint.h>
+
+#ifdef __cplusplus
+extern "C" {
+#endif
+
+enum { LOADER_STACK = 49152 };
+
+enum {
+    LOADER_MAX_STATEMENTS = 48,
+    LOADER_MAX_SCANS = 48,
+    LOADER_MAX_SLOTS = 96,
+    LOADER_MAX_SELECTS = 32,
+    LOADER_MAX_SEARCHED = 6
+};
+
+/* Why a call is refused. The order in which the numbers are tried is document 01's: planning 10 to 16 ascending; search 10 to 15, 17,
+   18; plan check 20, 13, then scan by scan 21 to 24, then 25, 26; cost and next 20, 21, cost then 27; evaluation the plan check, 28, 1,
+   2, 3; text the plan check, 30, 31; a select's name the plan check, 30, 26, 29. Within a number the lowest place is given. */
+enum loader_refusal {
+    LOADER_FINE = 0,                  /* not refused */
+    LOADER_TABLE_LENGTH = 1,          /* a table's length is no multiple of 3, or lengths differ; place 0 */
+    LOADER_TABLE_ORDER = 2,           /* a table isn't strictly ascending; place 0 aevt, 1 avet, 2 eavt */
+    LOADER_TABLE_MISSING = 3,         /* a fact of aevt is missing in avet or eavt; place: its row in aevt */
+    LOADER_TOO_MANY_STATEMENTS = 10,  /* over 48 statements; place 0 */
+    LOADER_TOO_MANY_SLOTS = 11,       /* variables and constants over 96; place 0 */
+    LOADER_TOO_MANY_SELECTS = 12,     /* over 32 selects; place 0 */
+    LOADER_NO_SELECTS = 13,           /* no selects, of a query or a plan; place 0 */
+    LOADER_NO_SUCH_VARIABLE = 14,     /* a variable number not below the variable count; place: statement, or statement count + select */
+    LOADER_UNUSED_VARIABLE = 15,      /* a variable in no statement; place: the variable */
+    LOADER_BOUND_TWICE = 16,          /* entity and value are one variable, new there; place: statement */
+    LOADER_TOO_MANY_TO_SEARCH = 17,   /* search over 6 statements; place 0 */
+    LOADER_NO_SOUND_ORDER = 18,       /* no order of the statements is sound; place 0 */
+    LOADER_PLAN_COUNTS = 20,          /* plan counts over 96 slots, 48 scans or 32 selects; place 0 */
+    LOADER_OUT_OUT_EAVT = 21,         /* a scan is out-out over eavt, or its index or flow is none; place: scan */
+    LOADER_NO_SUCH_SLOT = 22,         /* a scan names no slot of the plan; place: scan */
+    LOADER_WRITES_SET_SLOT = 23,      /* a scan writes a slot that is set; place: scan */
+    LOADER_READS_UNSET_SLOT = 24,     /* a scan reads a slot that is not set; place: scan */
+    LOADER_SLOT_NEVER_SET = 25,       /* a slot is never set; place: the slot */
+    LOADER_NO_SUCH_SELECT = 26,       /* a select names no slot, or there is no such select; place: select */
+    LOADER_COST_TOO_LARGE = 27,       /* cost over 2^64 - 1; place: the scan at which, working from the last, it first passes */
+    LOADER_NO_SCANS = 28,             /* evaluation of no scans; place 0 */
+    LOADER_CONSTANT_SELECTED = 29,    /* the name is asked of a selected constant; place: select */
+    LOADER_NAME_ENDS = 30,            /* name ends fall, pass the name bytes, or aren't one per slot; place 0 */
+    LOADER_TEXT_TOO_SHORT = 31        /* text buffer too short for the whole text; place 0 */
+};
+
+/* What a call answers, besides what it returns. A call writes all four words. */
+struct loader_answer {
+    uint64_t number; /* LOADER_FINE or the refusal's number; the call returns the same */
+    uint64_t place;  /* the refusal's place, 0 where there is none */
+    uint64_t first;  /* what the call says below; 0 where it is refused, or says nothing */
+    uint64_t second;
+};
+
+/* A query. Words past the counts are not looked at. */
+struct loader_statement {
+    uint64_t entity;      /* a variable */
+    uint64_t attribute;   /* any number */
+    uint64_t is_constant; /* 1: the value is a constant; 0: a variable; anything else is refused, 14 */
+    uint64_t value;       /* the constant, any number; or the variable */
+};
+
+struct loader_query {
+    uint64_t variable_count;
+    uint64_t statement_count;
+    uint64_t select_count;
+    struct loader_statement statements[LOADER_MAX_STATEMENTS];
+    uint64_t select[LOADER_MAX_SELECTS]; /* variables */
+};
+
+enum loader_index { LOADER_AEVT = 0, LOADER_AVET = 1, LOADER_EAVT = 2 };
+enum loader_flow { LOADER_OUT_OUT = 0, LOADER_IN_OUT = 1, LOADER_IN_IN = 2 };
+
+/* A plan. Slot i is variable i; the constants of the query come after, in order. Words past the counts are not looked at;
+   loader_plan and loader_search write zeros there. Any words are a plan, and the plan check says whether it is a good one. An index or a flow that is
+   none of those above makes a scan out-out over eavt, which is refused, 21. A number of a slot above 65535 counts as 65535, which names
+   no slot: 22 or 26. A slot's first word other than 1 makes it a variable. */
+struct loader_scan {
+    uint64_t index;     /* enum loader_index */
+    uint64_t flow;      /* enum loader_flow */
+    uint64_t entity;    /* a slot */
+    uint64_t attribute; /* any number */
+    uint64_t value;     /* a slot */
+};
+
+struct loader_slot {
+    uint64_t is_constant; /* 1: a constant; 0: a variable */
+    uint64_t value;       /* the constant; 0 for a variable */
+};
+
+struct loader_plan {
+    uint64_t scan_count;
+    uint64_t slot_count;
+    uint64_t select_count;
+    struct loader_scan scans[LOADER_MAX_SCANS]; /* the first is the outermost loop */
+    struct loader_slot slots[LOADER_MAX_SLOTS];
+    uint64_t select[LOADER_MAX_SELECTS]; /* slots */
+};
+
+/* The calls read and write these structs as arrays of u64. */
+#if defined __STDC_VERSION__ && __STDC_VERSION__ >= 201112L
+_Static_assert(sizeof(struct loader_answer) == 4 * sizeof(uint64_t), "an answer is 4 words");
+_Static_assert(sizeof(struct loader_query) == 227 * sizeof(uint64_t), "a query is 227 words");
+_Static_assert(sizeof(struct loader_plan) == 467 * sizeof(uint64_t), "a plan is 467 words");
+_Static_assert(sizeof(size_t) == sizeof(uint64_t), "a length is a word");
+#endif
+
+/* Plan a query, its statements in the given order. Refusals 10 to 16. */
+uint64_t loader_plan(const struct loader_query *query, struct loader_plan *plan, struct loader_answer *answer);
+
+/* The cheapest plan over every sound order of at most 6 statements. `order` is the order: statement numbers, outermost first, zeros
+   past the last. `first` is the cost. Refusals 10 to 15, 17, 18. */
+uint64_t loader_search(const struct loader_query *query, uint64_t order[LOADER_MAX_SEARCHED], struct loader_plan *plan, struct loader_answer *answer);
+
+/* Step a plan to the next one that answers the same. `first` is 1 where it is new; 0 where all were seen, and the initial plan stands
+   again. The whole plan is written, each word as it was read: one that no plan has becomes what it counts as. Refusals 20, 21. */
+uint64_t loader_next(struct loader_plan *plan, struct loader_answer *answer);
+
+/* The plan check. Refusals 20, 13, 21 to 26. */
+uint64_t loader_check(const struct loader_plan *plan, struct loader_answer *answer);
+
+/* `first` is the plan's cost. Refusals 20, 21, 27. */
+uint64_t loader_cost(const struct loader_plan *plan, struct loader_answer *answer);
+
+/* The check of three tables. A fact is three words: aevt (attribute, entity, value), avet (attribute, value, entity), eavt (entity,
+   attribute, value). Each table holds all facts, strictly ascending word by word. A length is in words. Refusals 1 to 3. */
+uint64_t loader_tables(const uint64_t *aevt, size_t aevt_length, const uint64_t *avet, size_t avet_length, const uint64_t *eavt, size_t eavt_length,
+                       struct loader_answer *answer);
+
+/* Evaluate a plan: write its rows from number `from` on, one after the other, as many whole ones as fit in `rows_length` words. A row is
+   `select_count` words. `first` is how many rows were written, `second` 1 where another follows, else 0. Words past the last row stay.
+   The plan and the tables are checked at each call. Refusals: those of the plan check, 28, 1 to 3. */
+uint64_t loader_evaluate(const struct loader_plan *plan, const uint64_t *aevt, size_t aevt_length, const uint64_t *avet, size_t avet_length,
+                         const uint64_t *eavt, size_t eavt_length, uint64_t from, uint64_t *rows, size_t rows_length, struct loader_answer *answer);
+
+/* The text of a plan, without a 0 or a newline at its end. `ends` holds for each slot where its name ends in `names`; the first starts
+   at 0, each other at the end before it. A constant's name is not read. `first` is the text's length; bytes past it stay. Refusals:
+   those of the plan check, 30, 31. */
+uint64_t loader_text(const struct loader_plan *plan, const uint8_t *names, size_t names_length, const uint64_t *ends, size_t ends_length,
+                     uint8_t *text, size_t text_length, struct loader_answer *answer);
+
+/* The name of select `index`. `first` is its length; it ends where the name of the select's slot does, so that it is the `first` bytes
+   before `names + ends[plan->select[index]]`. Refusals: those of the plan check, 30, 26, 29. */
+uint64_t loader_select_name(const struct loader_plan *plan, const uint8_t *names, size_t names_length, const uint64_t *ends, size_t ends_length,
+                            size_t index, struct loader_answer *answer);
+
+#ifdef __cplusplus
+}
+#endif
+#endif
