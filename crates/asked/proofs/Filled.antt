@@ -10,6 +10,7 @@ use lib.Seq.{take-suc-set, paste-suc}
 use borrow.Author.Tests.{lt-leb, le-leb, lt-ltb, le-ltb, eq-eqb, ne-eqb}
 use Rattle.capacity.specs.Capacity.{maxStatements, maxSelects}
 use Rattle.lists.specs.Padded.{padded}
+use Rattle.lists.specs.Tabled.{tabled}
 use Rattle.lists.proofs.Padded.{padded-more, padded-none}
 use Rattle.query.specs.declared.Var.{Var}
 use Rattle.query.specs.declared.QueryValue.{QueryValue}
@@ -21,29 +22,7 @@ use Rattle.query.specs.declared.Query.{Query}
 use Rattle.query.specs.Query.{zeroVar, zeroStatement}
 use Rattle.asked.specs.declared.Parts.{Parts}
 use Rattle.asked.specs.Parts.{partsOf, itemsOf, areBytes}
-use Rattle.asked.specs.Asked.{varOf, valueOf, statementOf, upTo, statementsOf, selectsOf, queryOf, bytesFit, bytesAfter, endOf, endsCount}
-
-module _ {A : Type 0} (f : ℕ → A) where
-  pub up-to-length : (n : ℕ) → length (upTo f n) ≡ n
-  unfolding upTo
-  up-to-length zero = refl
-  up-to-length (suc n) = let l = length-append (upTo f n) (f n ∷ []) in let h = up-to-length n in omega arith
-
-  up-to-next : (n : ℕ) → upTo f (n + 1) ≡ upTo f n ++ (f n ∷ [])
-  unfolding upTo
-  up-to-next n = rw add-one
-
-  -- one more in an array
-  pub up-to-more : (z : A) (n i : ℕ) (x : A) (items : List A) → i < n → items ≡ padded z n (upTo f i) → x ≡ f i
-      → set items i x ≡ padded z n (upTo f (i + 1))
-  up-to-more z n i x items h e k =
-      let l = up-to-length i in
-      let m : set (padded z n (upTo f i)) (length (upTo f i)) (f i) ≡ padded z n (upTo f i ++ (f i ∷ [])) = padded-more z n (upTo f i) (f i) (omega arith) in
-      rw (e, k, up-to-next i) (rw l at m)
-
-  -- one more in a buffer
-  pub up-to-front : (i : ℕ) (x : A) (items : List A) → i < length items → take i items ≡ upTo f i → x ≡ f i → take (i + 1) (set items i x) ≡ upTo f (i + 1)
-  up-to-front i x items h e k = rw (up-to-next i, add-one, take-suc-set items i x h, e, k)
+use Rattle.asked.specs.Asked.{varOf, valueOf, statementOf, statementsOf, selectsOf, queryOf, bytesFit, bytesAfter, endOf, endsCount}
 
 pub var-past : (n : ℕ) → 65535 < n → record { 0 = 65535 } ≡ varOf n
 unfolding varOf
@@ -67,12 +46,12 @@ pub statement-is : (ws : List ℕ) (i e a k v : ℕ) (x : Var) (y : QueryValue) 
 unfolding statementOf
 statement-is ws i e a k v x y he ha hk hv hx hy = rw (hx, hy, he, ha, hk, hv)
 
-pub statements-are : (ws : List ℕ) (n i : ℕ) (items : List Statement) → items ≡ padded zeroStatement maxStatements (upTo (statementOf ws) i)
+pub statements-are : (ws : List ℕ) (n i : ℕ) (items : List Statement) → items ≡ padded zeroStatement maxStatements (tabled (statementOf ws) i)
     → i ≡ min n maxStatements → _≡_ {A = Statements} (record { items = items; count = n }) (statementsOf ws n)
 unfolding statementsOf
 statements-are ws n i items e h = rw (e, h)
 
-pub selects-are : (ws : List ℕ) (n i : ℕ) (items : List Var) → items ≡ padded zeroVar maxSelects (upTo (λ i. varOf (getD ws i 0)) i)
+pub selects-are : (ws : List ℕ) (n i : ℕ) (items : List Var) → items ≡ padded zeroVar maxSelects (tabled (λ i. varOf (getD ws i 0)) i)
     → i ≡ min n maxSelects → _≡_ {A = Selects} (record { items = items; count = n }) (selectsOf ws n)
 unfolding selectsOf
 selects-are ws n i items e h = rw (e, h)
@@ -112,15 +91,6 @@ module _ (ws : List ℕ) (i : ℕ) where
     pub end-last : (length ws ≡ 0 → ⊥) → getD ws (length ws - 1) 0 ≡ endOf ws i
     unfolding endOf
     end-last h = rw (le-ltb i (length ws) past, ne-eqb (length ws) 0 h)
-
-pub up-to-none : {A : Type 0} (f : ℕ → A) → [] ≡ upTo f 0
-unfolding upTo
-up-to-none f = refl
-
--- an array of zeros has nothing in front
-pub padded-start : {A : Type 0} (z : A) (f : ℕ → A) (n : ℕ) → replicate n z ≡ padded z n (upTo f 0)
-unfolding upTo
-padded-start z f n = sym (padded-none z n)
 
 -- one more byte in front of a buffer
 pub copied-more : (ws buffer bytes : List ℕ) (i v : ℕ) → i < length ws → length ws ≤ length buffer → bytes ≡ take i ws ++ drop i buffer → v ≡ getD ws i 0

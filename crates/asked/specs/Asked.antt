@@ -6,6 +6,7 @@ use lib.ListN.{length, take, drop, getD}
 use lib.Dec.{leb, ltb, eqb}
 use Rattle.capacity.specs.Capacity.{maxStatements, maxSelects}
 use Rattle.lists.specs.Padded.{padded}
+use Rattle.lists.specs.Tabled.{tabled}
 use Rattle.query.specs.declared.Var.{Var}
 use Rattle.query.specs.declared.QueryValue.{QueryValue}
 use Rattle.query.specs.declared.QueryValue.the-variants.{Const, Var as Variable}
@@ -33,17 +34,12 @@ statementOf ws i =
       value = valueOf (getD ws (i * 4 + 2) 0) (getD ws (i * 4 + 3) 0);
     }
 
--- what f gives of the numbers below n, in order
-unfoldable pub upTo : {A : Type 0} → (ℕ → A) → ℕ → List A
-upTo f zero = []
-upTo f (suc n) = upTo f n ++ (f n ∷ [])
-
 -- as many as fit, zeros past them, and the count of all
 unfoldable pub statementsOf : List ℕ → ℕ → Statements
-statementsOf ws n = record { items = padded zeroStatement maxStatements (upTo (statementOf ws) (min n maxStatements)); count = n }
+statementsOf ws n = record { items = padded zeroStatement maxStatements (tabled (statementOf ws) (min n maxStatements)); count = n }
 
 unfoldable pub selectsOf : List ℕ → ℕ → Selects
-selectsOf ws n = record { items = padded zeroVar maxSelects (upTo (λ i. varOf (getD ws i 0)) (min n maxSelects)); count = n }
+selectsOf ws n = record { items = padded zeroVar maxSelects (tabled (λ i. varOf (getD ws i 0)) (min n maxSelects)); count = n }
 
 -- the query that is asked
 unfoldable pub queryOf : List ℕ → Query
@@ -68,7 +64,7 @@ endOf ws i = cond (ltb i (length ws)) (getD ws i 0) (cond (eqb (length ws) 0) 0 
 
 -- a buffer of ends
 abbrev pub endsAfter : List ℕ → ℕ → List ℕ
-endsAfter ws room = upTo (endOf ws) room
+endsAfter ws room = tabled (endOf ws) room
 
 -- so many are given, and one for each constant, as far as there is room
 unfoldable pub endsCount : ℕ → ℕ → ℕ → ℕ

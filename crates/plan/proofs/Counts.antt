@@ -6,9 +6,8 @@ use borrow.Author.Tests.{ltb-false}
 use lib.Dec.{ltb}
 use Rattle.capacity.specs.Capacity.{maxScans, maxSlots, maxSelects}
 use Rattle.refusal.specs.declared.Verdict.the-variants.{Fine}
-use Rattle.refusal.proofs.Fine.{refuse-fine, or-fine}
-use Rattle.plan.specs.declared.Plan.{Plan}
-use Rattle.plan.specs.Plan.{countsFault, flowsFault}
+use Rattle.refusal.proofs.Fine.{refuse-fine}
+use Rattle.plan.specs.Plan.{countsFault}
 
 or-false : (s t : Bool) → (s || t) ≡ false → (s ≡ false) × (t ≡ false)
 or-false true t e = (e, cc)
@@ -26,8 +25,3 @@ counts-fine scans slots selects e =
     let a = or-false (ltb maxSlots slots || ltb maxScans scans) (ltb maxSelects selects) (refuse-fine _ _ _ e) in
     let b = or-false (ltb maxSlots slots) (ltb maxScans scans) (a .0) in
     record { few-scans = ltb-false _ _ (b .1); few-slots = ltb-false _ _ (b .0); few-selects = ltb-false _ _ (a .1) }
-
--- and so where the flows are fine too
-pub flows-counted : (p : Plan) → flowsFault p ≡ Fine → Counted (p .«scan_count») (p .«slot_count») (p .«select_count»)
-unfolding flowsFault
-flows-counted p e = counts-fine _ _ _ (or-fine _ _ e .0)

@@ -49,9 +49,6 @@ module _ (count : ℕ) (order : List ℕ) (o : Orders count order) where
       let e = ap length (o .zeros) in
       length-take-le count order (omega (arith, e, padded-length 0 maxSearched (take count order), o .few))
 
-  pub order-long : length order ≡ maxSearched
-  order-long = sym (ap length (o .zeros)) ∙ padded-length 0 maxSearched (take count order)
-
   module _ (a b : ℕ) (h : a < count) (g : b < count) where
     parted : swapped a b order ≡ swapped a b (take count order) ++ drop count order
     parted =

@@ -16,7 +16,8 @@ use Rattle.plan.specs.declared.Index.the-variants.{Aevt, Avet, Eavt}
 use Rattle.plan.specs.declared.Flow.{Flow}
 use Rattle.plan.specs.declared.Flow.the-variants.{OutOut, InOut, InIn}
 use Rattle.plan.specs.Plan.{zeroScan, variableSlot, zeroSlot}
-use Rattle.words.specs.Words.{tabled, largest, slotOf, indexOf, flowOf, definitionOf, word, scanWords, slotWords, scansAt, slotsAt, selectAt, scanAt, slotAt, selectedAt, scansIn, slotsIn, selectsIn, planOfWords}
+use Rattle.lists.specs.Tabled.{tabled}
+use Rattle.words.specs.Words.{largest, slotOf, indexOf, flowOf, definitionOf, word, scanWords, slotWords, scansAt, slotsAt, selectAt, scanAt, slotAt, selectedAt, scansIn, slotsIn, selectsIn, planOfWords}
 use Rattle.words.specs.Write.{indexWord, flowWord, constantWord, valueWord, wordsOfScan, wordsOfSlot, wordsOfSelect, laid, countWords, wordsOfPlan}
 use Rattle.words.proofs.Written.{Filled, front-long, middle-long}
 

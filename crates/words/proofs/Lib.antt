@@ -1,4 +1,3 @@
-pub mod Tabled
 pub mod Laid
 pub mod Written
 pub mod Back

@@ -1,9 +1,10 @@
 -- How plans and queries stand as words: every number at a fixed place, and what any words say.
-use Prim.Native.Nat.{ℕ, zero, suc, _+_, _*_, min}
+use Prim.Native.Nat.{ℕ, _+_, _*_, min}
 use mathlib.Core.Bool.{Bool, _||_, cond}
-use mathlib.Core.List.{List, [], _∷_, _++_}
+use mathlib.Core.List.{List}
 use lib.ListN.{getD}
 use lib.Dec.{ltb, eqb}
+use Rattle.lists.specs.Tabled.{tabled}
 use Rattle.capacity.specs.Capacity.{maxScans, maxSlots, maxSelects, maxStatements}
 use Rattle.plan.specs.declared.Slot.{Slot}
 use Rattle.plan.specs.declared.Scan.{Scan}
@@ -20,11 +21,6 @@ use Rattle.query.specs.declared.QueryValue.{QueryValue}
 use Rattle.query.specs.declared.QueryValue.the-variants.{Const, Var as AVar}
 use Rattle.query.specs.declared.Statement.{Statement}
 use Rattle.query.specs.declared.Query.{Query}
-
--- f 0, f 1 and so on, n of them
-unfoldable pub tabled : {A : Type 0} → (ℕ → A) → ℕ → List A
-tabled f zero = []
-tabled f (suc n) = tabled f n ++ (f n ∷ [])
 
 -- where each part of a plan starts, and how many words a plan has
 abbrev pub scanWords : ℕ

@@ -4,14 +4,15 @@ use Prim.Native.Nat.{_≤_, _-_}
 use native.Mathlib.Omega.{arith}
 use lib.ListN.{length, take, length-set}
 use lib.Seq.{take-all}
-use Rattle.asked.specs.Asked.{upTo, endOf}
-use Rattle.asked.proofs.Filled.{up-to-front, up-to-none}
+use Rattle.lists.specs.Tabled.{tabled}
+use Rattle.asked.specs.Asked.{endOf}
+use Rattle.lists.proofs.Tabled.{tabled-more, tabled-none}
 use borrow.Author.Needs.{needs}
 use Rattle.asked.proofs.read_ends.Statement.{statement}
 use Rattle.asked.proofs.read_ends.Tie as tie
 
 abbrev Inv : tie.InvT-loop
-Inv words ends₀ i₀ ends i = (i ≤ length ends₀) × (length ends ≡ length ends₀) × (take i ends ≡ upTo (endOf words) i)
+Inv words ends₀ i₀ ends i = (i ≤ length ends₀) × (length ends ≡ length ends₀) × (take i ends ≡ tabled (endOf words) i)
 
 abbrev μ : tie.MeasureT-loop
 μ words ends₀ i₀ ends i = length ends₀ - i
@@ -20,7 +21,7 @@ again : tie.Need-loop-again Inv μ
 again c =
     let t = c .before in
     let l = t .before .loop in
-    (omega arith, simp length-set (l .inv .1), up-to-front _ (l .i) _ _ (omega (arith, t .loop-test .taken)) (l .inv .2) (c .end-at .ensures))
+    (omega arith, simp length-set (l .inv .1), tabled-more _ _ (l .i) _ (omega (arith, t .loop-test .taken)) (c .end-at .ensures) (l .inv .2))
 
 done : tie.Need-returns Inv μ
 done c =
@@ -34,7 +35,7 @@ read-ends-spec =
     (tie.spec
     Inv
     μ
-    (λ c. (omega arith, refl, up-to-none _))
+    (λ c. (omega arith, refl, tabled-none _))
     (λ c κs. search needs)
     (λ c. search needs)
     (λ c. search needs)

@@ -6,14 +6,16 @@ use lib.ListN.{length, getD}
 use Rattle.capacity.specs.Capacity.{maxSelects}
 use Rattle.lists.specs.Padded.{padded}
 use Rattle.query.specs.Query.{zeroVar}
-use Rattle.asked.specs.Asked.{upTo, statementOf, varOf}
-use Rattle.asked.proofs.Filled.{up-to-more, padded-start, selects-are}
+use Rattle.lists.specs.Tabled.{tabled}
+use Rattle.asked.specs.Asked.{statementOf, varOf}
+use Rattle.lists.proofs.Tabled.{tabled-padded-more, tabled-padded-none}
+use Rattle.asked.proofs.Filled.{selects-are}
 use borrow.Author.Needs.{needs}
 use Rattle.asked.proofs.read_selects.Statement.{statement}
 use Rattle.asked.proofs.read_selects.Tie as tie
 
 abbrev Inv : tie.InvT-loop
-Inv words count items₀ i₀ items i = (i ≤ maxSelects) × (i ≤ count) × (items ≡ padded zeroVar maxSelects (upTo (λ j. varOf (getD words j 0)) i))
+Inv words count items₀ i₀ items i = (i ≤ maxSelects) × (i ≤ count) × (items ≡ padded zeroVar maxSelects (tabled (λ j. varOf (getD words j 0)) i))
 
 abbrev μ : tie.MeasureT-loop
 μ words count items₀ i₀ items i = maxSelects - i
@@ -28,7 +30,7 @@ again c =
     let l = t .before .loop in (
       omega (arith, t .loop-test .taken),
       omega (arith, w .before .if1 .left),
-      up-to-more _ zeroVar maxSelects (l .i) _ _ (t .loop-test .taken) (l .inv .2) (rw (w .word-at .ensures) at (c .variable .ensures)),
+      tabled-padded-more _ zeroVar maxSelects (l .i) _ _ (t .loop-test .taken) (l .inv .2) (rw (w .word-at .ensures) at (c .variable .ensures)),
     )
 
 done : tie.Need-returns-2 Inv μ
@@ -40,7 +42,7 @@ read-selects-spec =
     (tie.spec
     Inv
     μ
-    (λ c. (omega arith, omega arith, padded-start zeroVar _ maxSelects))
+    (λ c. (omega arith, omega arith, tabled-padded-none _ zeroVar maxSelects))
     full
     (λ c κs. search needs)
     (λ c κs. search needs)

@@ -6,14 +6,16 @@ use lib.ListN.{length, getD}
 use Rattle.capacity.specs.Capacity.{maxStatements}
 use Rattle.lists.specs.Padded.{padded}
 use Rattle.query.specs.Query.{zeroStatement}
-use Rattle.asked.specs.Asked.{upTo, statementOf, varOf}
-use Rattle.asked.proofs.Filled.{up-to-more, padded-start, statements-are}
+use Rattle.lists.specs.Tabled.{tabled}
+use Rattle.asked.specs.Asked.{statementOf, varOf}
+use Rattle.lists.proofs.Tabled.{tabled-padded-more, tabled-padded-none}
+use Rattle.asked.proofs.Filled.{statements-are}
 use borrow.Author.Needs.{needs}
 use Rattle.asked.proofs.read_statements.Statement.{statement}
 use Rattle.asked.proofs.read_statements.Tie as tie
 
 abbrev Inv : tie.InvT-loop
-Inv words count items₀ i₀ items i = (i ≤ maxStatements) × (i ≤ count) × (items ≡ padded zeroStatement maxStatements (upTo (statementOf words) i))
+Inv words count items₀ i₀ items i = (i ≤ maxStatements) × (i ≤ count) × (items ≡ padded zeroStatement maxStatements (tabled (statementOf words) i))
 
 abbrev μ : tie.MeasureT-loop
 μ words count items₀ i₀ items i = maxStatements - i
@@ -27,7 +29,7 @@ again c =
     let l = t .before .loop in (
       omega (arith, t .loop-test .taken),
       omega (arith, c .before .if1 .left),
-      up-to-more _ zeroStatement maxStatements (l .i) _ _ (t .loop-test .taken) (l .inv .2) (c .statement-at .ensures),
+      tabled-padded-more _ zeroStatement maxStatements (l .i) _ _ (t .loop-test .taken) (l .inv .2) (c .statement-at .ensures),
     )
 
 done : tie.Need-returns-2 Inv μ
@@ -39,7 +41,7 @@ read-statements-spec =
     (tie.spec
     Inv
     μ
-    (λ c. (omega arith, omega arith, padded-start zeroStatement _ maxStatements))
+    (λ c. (omega arith, omega arith, tabled-padded-none _ zeroStatement maxStatements))
     full
     (λ c κs. search needs)
     (λ c. search needs)

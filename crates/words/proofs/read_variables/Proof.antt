@@ -5,8 +5,9 @@ use native.Mathlib.Omega.{arith}
 use borrow.Author.Needs.{needs}
 use lib.ListN.{length, take, length-set}
 use Rattle.capacity.specs.Capacity.{maxSelects}
-use Rattle.words.specs.Words.{tabled, variableAt}
-use Rattle.words.proofs.Tabled.{tabled-none, tabled-more, tabled-all}
+use Rattle.lists.specs.Tabled.{tabled}
+use Rattle.words.specs.Words.{variableAt}
+use Rattle.lists.proofs.Tabled.{tabled-none, tabled-more, tabled-all}
 use Rattle.words.proofs.read_variables.Statement.{statement}
 use Rattle.words.proofs.read_variables.Tie as tie
 

@@ -1,12 +1,14 @@
 -- An array that is filled from the front with f 0, f 1 and so on.
 use mathlib.Core.Path.{_≡_, refl, sym, _∙_}
 use Prim.Native.Nat.{ℕ, zero, suc, _+_, _<_}
-use mathlib.Core.List.{List, []}
+use mathlib.Core.List.{List, [], _∷_, _++_}
 use native.Mathlib.Numerals.{add-one}
 use native.Mathlib.Omega.{arith}
-use lib.ListN.{length, set, take, length-append}
+use lib.ListN.{length, set, take, replicate, length-append}
 use lib.Seq.{take-suc-set, take-all}
-use Rattle.words.specs.Words.{tabled}
+use Rattle.lists.specs.Padded.{padded}
+use Rattle.lists.specs.Tabled.{tabled}
+use Rattle.lists.proofs.Padded.{padded-more, padded-none}
 
 module _ {A : Type 0} (f : ℕ → A) where
   pub tabled-none : [] ≡ tabled f 0
@@ -26,3 +28,16 @@ module _ {A : Type 0} (f : ℕ → A) where
   unfolding tabled
   tabled-length zero = refl
   tabled-length (suc n) = length-append (tabled f n) _ ∙ rw (tabled-length n) (omega arith)
+
+  -- the same with others behind
+  pub tabled-padded-none : (z : A) (n : ℕ) → replicate n z ≡ padded z n (tabled f 0)
+  unfolding tabled
+  tabled-padded-none z n = sym (padded-none z n)
+
+  pub tabled-padded-more : (z : A) (n i : ℕ) (x : A) (items : List A) → i < n → items ≡ padded z n (tabled f i) → x ≡ f i
+      → set items i x ≡ padded z n (tabled f (i + 1))
+  unfolding tabled
+  tabled-padded-more z n i x items h e k =
+      let l = tabled-length i in
+      let m : set (padded z n (tabled f i)) (length (tabled f i)) (f i) ≡ padded z n (tabled f i ++ (f i ∷ [])) = padded-more z n (tabled f i) (f i) (omega arith) in
+      rw (e, k, add-one) (rw l at m)
