@@ -16,3 +16,4 @@ pub mod Weighs
 pub mod Searched
 pub mod Shown
 pub mod Entries
+pub mod Alike
