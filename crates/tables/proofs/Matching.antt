@@ -2,12 +2,13 @@
 use mathlib.Core.Path.{_≡_, refl, ap, _∙_}
 use mathlib.Core.Bool.{Bool, true, false, cond, and-false}
 use mathlib.Core.List.{List, [], _∷_, _++_, map, append-nil}
-use Prim.Native.Nat.{ℕ, zero, suc, _+_, _*_, _-_, _≤_, _<_}
+use Prim.Native.Nat.{ℕ, zero, suc, _+_, _*_, _-_, _/_, _≤_, _<_}
 use native.Mathlib.Omega.{arith}
 use native.Mathlib.Nat.{add-zero, zero-add, suc-add}
-use lib.ListN.{take, drop}
+use lib.ListN.{length, take, drop, length-drop}
+use lib.Seq.{length-take-le}
 use Rattle.datom.specs.Fact.{words}
-use Rattle.tables.specs.Rows.{count, row, span, rowsOf, ascending, begins, keep, matching, flat, Bound}
+use Rattle.tables.specs.Rows.{count, row, span, rowsOf, ascending, begins, keep, matching, flat, Bound, Range}
 use Rattle.tables.proofs.Order.{begins-passes}
 use Rattle.tables.proofs.Table.{flat-rows}
 
@@ -70,8 +71,28 @@ module _ (t ks : List ℕ) (low high : ℕ) (first : Bound t 0 ks false low) (la
       (λ k g h. begins-passes (row t k) ks ∙ simp (last .passed asc k g h, first .stopped asc k g (omega (arith, first .at-most, last .at-most))))
       (λ k g h. begins-passes (row t k) ks ∙ simp (last .stopped asc k g h))
 
-  -- and their words, a part of the table
-  pub part-matches : take (words * high - words * low) (drop (words * low) t) ≡ flat (map (row t) (matching t ks))
-  part-matches =
-      let e : words * high - words * low ≡ words * (high - low) = omega arith in
-      rw (bounds-match, flat-rows t low (high - low), e)
+-- and their words, a part of the table
+pub range-matches : (t ks r : List ℕ) (low : ℕ) → Bound t 0 ks false low → Range t low ks r → ascending (rowsOf t) ≡ true → r ≡ flat (map (row t) (matching t ks))
+range-matches t ks r low first found asc =
+    let e : words * (low + length r / words - low) ≡ length r = omega (arith, found .whole) in
+    found .part ∙ rw (bounds-match t ks low (low + length r / words) first (found .ends) asc, flat-rows t low (low + length r / words - low), e)
+
+-- the rows from a number on that is past the table, and from one on up to a bound
+pub range-past : (t ks : List ℕ) (i : ℕ) → count t ≤ i → Range t i ks []
+range-past t ks i h = record {
+  part = refl;
+  whole = refl;
+  ends = record {
+    at-least = omega arith;
+    at-most = omega arith;
+    passed = λ _ k g l. absurd (omega arith);
+    stopped = λ _ k g l. absurd (omega arith);
+  };
+}
+
+pub range-upto : (t ks : List ℕ) (i to : ℕ) → i < count t → Bound t i ks true to → Range t i ks (take (words * to - words * i) (drop (words * i) t))
+range-upto t ks i to h b =
+    let n : length (take (words * to - words * i) (drop (words * i) t)) ≡ words * to - words * i =
+        length-take-le _ (drop (words * i) t) (simp length-drop (omega (arith, b .at-most))) in
+    let e : i + (words * to - words * i) / words ≡ to = omega (arith, b .at-least) in
+    record { part = rw n refl; whole = rw n (omega (arith, b .at-least)); ends = rw (n, e) b }

@@ -1,14 +1,16 @@
 -- No second answer fits the promises of this crate; those of `bound`, `range` and `is_row` say which answer only of an ascending table.
-use mathlib.Core.Path.{_≡_, sym}
+use mathlib.Core.Path.{_≡_, sym, ap, _∙_}
 use mathlib.Core.Logic.{⊎-elim}
 use mathlib.Core.Bool.{Bool, true}
-use mathlib.Core.List.{List, map}
-use Prim.Native.Nat.{ℕ, _≤_, _<_}
+use mathlib.Core.List.{List}
+use Prim.Native.Nat.{ℕ, _*_, _≤_, _<_}
 use native.Mathlib.Omega.{arith}
 use native.Mathlib.Nat.{eq-or-lt-of-le}
+use lib.ListN.{length, take, drop}
+use Rattle.datom.specs.Fact.{words}
 use Rattle.refusal.specs.declared.Verdict.{Verdict}
 use Rattle.refusal.proofs.OneAnswer.{one-answer}
-use Rattle.tables.specs.Rows.{row, rowsOf, ascending, matching, flat, Bound}
+use Rattle.tables.specs.Rows.{rowsOf, ascending, Bound, Range}
 use Rattle.tables.specs.Check.{isAmong, tablesFault}
 use Rattle.tables.proofs.Order.{no-yes, lt-or-ge}
 
@@ -22,11 +24,6 @@ module _ (t : List ℕ) (asc : ascending (rowsOf t) ≡ true) where
       → (ascending (rowsOf t) ≡ true → r′ ≡ isAmong k (rowsOf t)) → r ≡ r′
   is-row-one k r r′ p q = one-answer (p asc) (q asc)
 
-  -- `range`
-  pub range-one : (ks r r′ : List ℕ) → (ascending (rowsOf t) ≡ true → r ≡ flat (map (row t) (matching t ks)))
-      → (ascending (rowsOf t) ≡ true → r′ ≡ flat (map (row t) (matching t ks))) → r ≡ r′
-  range-one ks r r′ p q = one-answer (p asc) (q asc)
-
   -- of two bounds none is below the other: its row would pass for the one, and not for the other
   no-less : (i : ℕ) (ks : List ℕ) (past : Bool) (r r′ : ℕ) → Bound t i ks past r → Bound t i ks past r′ → r < r′ → ⊥
   no-less i ks past r r′ b b′ l =
@@ -38,3 +35,9 @@ module _ (t : List ℕ) (asc : ascending (rowsOf t) ≡ true) where
       ⊎-elim (λ (l : r < r′). absurd (no-less i ks past r r′ b b′ l))
       (λ (l : r′ ≤ r). ⊎-elim (λ (q : r′ ≡ r). sym q) (λ (q : r′ < r). absurd (no-less i ks past r′ r b′ b q)) (eq-or-lt-of-le l))
       (lt-or-ge r r′)
+
+  -- `range`
+  pub range-one : (i : ℕ) (ks r r′ : List ℕ) → Range t i ks r → Range t i ks r′ → r ≡ r′
+  range-one i ks r r′ p q =
+      let e : length r ≡ length r′ = omega (arith, bound-one i ks true _ _ (p .ends) (q .ends), p .whole, q .whole) in
+      p .part ∙ ap (λ (n : ℕ). take n (drop (words * i) t)) e ∙ sym (q .part)

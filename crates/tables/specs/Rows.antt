@@ -1,6 +1,6 @@
 -- 01, "Tables and rows": a table is a list of words, some words a row, strictly ascending word by word.
 use mathlib.Core.Path.{_≡_}
-use Prim.Native.Nat.{ℕ, zero, suc, _+_, _*_, _-_, _/_, _≤_, _<_}
+use Prim.Native.Nat.{ℕ, zero, suc, _+_, _*_, _-_, _/_, _%_, _≤_, _<_}
 use mathlib.Core.List.{List, [], _∷_, _++_, map}
 use mathlib.Core.Bool.{Bool, true, false, cond, _&&_, _||_}
 use lib.ListN.{length, getD, take, drop}
@@ -75,3 +75,9 @@ pub record Bound (t : List ℕ) (i : ℕ) (ks : List ℕ) (past : Bool) (r : ℕ
   pub at-most : r ≤ i + (count t - i)
   pub passed : ascending (rowsOf t) ≡ true → (k : ℕ) → i ≤ k → k < r → passes past (row t k) ks ≡ true
   pub stopped : ascending (rowsOf t) ≡ true → (k : ℕ) → r ≤ k → k < count t → passes past (row t k) ks ≡ false
+
+-- r holds the words of the rows from number i on, up to the first that neither comes before a key nor begins with it
+pub record Range (t : List ℕ) (i : ℕ) (ks r : List ℕ) : Type 0 where
+  pub part : r ≡ take (length r) (drop (words * i) t)
+  pub whole : length r % words ≡ 0
+  pub ends : Bound t i ks true (i + length r / words)

@@ -4,9 +4,9 @@ use refusal::Verdict;
 use refusal::refuse;
 ghost use mathlib.Core.Path.{_≡_};
 ghost use mathlib.Core.Bool.{true};
-ghost use mathlib.Core.List.{[], _∷_, map};
+ghost use mathlib.Core.List.{[], _∷_};
 ghost use Prim.Native.Nat.{_<_};
-ghost use Rattle.tables.specs.Rows.{count, row, rowsOf, ascending, key, passes, Bound, matching, flat};
+ghost use Rattle.tables.specs.Rows.{count, row, rowsOf, ascending, key, passes, Bound, Range};
 ghost use Rattle.tables.specs.Check.{isAmong, lengthsFault, missingFault, tablesFault};
 
 // The words that order a table's rows, and that a key can have.
@@ -100,16 +100,23 @@ pub fn is_row(table: &[u64], first: u64, second: u64, third: u64) -> bool
     }
 }
 
-// The rows that begin with the key, the first `inputs` of the three words, as a part of the table that starts in its middle.
-pub fn range<'a>(table: &'a [u64], inputs: usize, first: u64, second: u64, third: u64) -> &'a [u64]
-    ensures { λ r. ⌜ (ascending (rowsOf (now (table .entry))) ≡ true →
-        now r ≡ flat (map (row (now (table .entry))) (matching (now (table .entry)) (key inputs first second third)))) ⌝ }
+// The rows from `from` on that come before the key or begin with it, the first `inputs` of the three words, as a part of the table that
+// starts in its middle. From the first row on that does not come before the key, these are the rows that begin with it.
+pub fn range<'a>(
+    table: &'a [u64],
+    from: usize,
+    inputs: usize,
+    first: u64,
+    second: u64,
+    third: u64,
+) -> &'a [u64]
+    ensures { λ r. ⌜ Range (now (table .entry)) from (key inputs first second third) (now r) ⌝ }
 {
-    let low = bound(table, 0, inputs, first, second, third, false);
-    let high = bound(table, low, inputs, first, second, third, true);
-    let from = WORDS * low;
-    let to = WORDS * high;
-    &table[from..to]
+    if table.len() / WORDS <= from {
+        return &table[..0];
+    }
+    let to = bound(table, from, inputs, first, second, third, true);
+    &table[WORDS * from..WORDS * to]
 }
 
 // By halves: the first row from `from` on that does not come before the key, or, with `past`, that comes after all rows that begin

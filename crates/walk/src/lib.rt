@@ -94,15 +94,16 @@ pub fn get_iter(i: usize, words: &[u64], table: &[u64], slots: &[u64]) -> Iter
 }
 
 // Return the positions that determine the range to scan over: those of the rows that begin with the key, the first `inputs`
-// of the three words. There is no largest datom here, so the range of the key 2^64 - 1 is found too.
+// of the three words, which the range finder hands on as a part of the table. There is no largest datom here, so the range of the
+// key 2^64 - 1 is found too.
 fn get_scan_bounds(table: &[u64], inputs: usize, first: u64, second: u64, third: u64) -> Iter
     ensures { λ r. ⌜ Found (now (table .entry)) (key inputs first second third) (r .position) (r .end) ⌝ }
 {
     let position = tables::bound(table, 0, inputs, first, second, third, false);
-    let end = tables::bound(table, position, inputs, first, second, third, true);
+    let rows = tables::range(table, position, inputs, first, second, third);
     Iter {
         position: position,
-        end: end,
+        end: position + rows.len() / WORDS,
     }
 }
 
