@@ -3,3 +3,4 @@ pub mod Write
 pub mod Written
 pub mod Answers
 pub mod OneAnswer
+pub mod Planned
