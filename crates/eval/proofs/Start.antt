@@ -5,7 +5,8 @@ use Prim.Native.Nat.{ℕ, zero, suc, _+_, _*_, _-_, _<_, _≤_}
 use native.Mathlib.Omega.{arith}
 use lib.ListN.{length, getD, set, drop, replicate, length-set, length-replicate}
 use lib.Seq.{getD-set-same, getD-set-other, take-length}
-use Rattle.tables.specs.Rows.{count, span}
+use Rattle.lists.specs.Span.{span}
+use Rattle.tables.specs.Rows.{count}
 use Rattle.plan.specs.declared.Scan.{Scan}
 use Rattle.plan.specs.Plan.{zeroScan}
 use Rattle.visits.specs.Visits.{Tables, tableOf, visited, visits, slotsAt}

@@ -7,7 +7,7 @@ use native.Mathlib.Nat.{not-suc-le-zero, le-of-suc-le-suc}
 use lib.ListN.{length, getD}
 use Rattle.lists.specs.Padded.{padded}
 use Rattle.permutation.specs.Swaps.{elementsFault, stopFrom, cleared, nextOf}
-use Rattle.orders.specs.Lists.{swapped, upFrom, factorial}
+use Rattle.orders.specs.Lists.{swapped, factorial}
 use Rattle.orders.specs.Listing.{answerAt, listed}
 use Rattle.query.specs.Query.{named}
 use Rattle.query_check.specs.Refusals.{constants, statementsFault, selectsFault, unusedFault, capacityFault, variablesFault, queryFault}
@@ -18,7 +18,8 @@ use Rattle.planner.specs.Refusals.{boundTwiceFault, planFault}
 use Rattle.planner.specs.Planning.{slotsOfConstants, scanOf, scansFor, planFor, planOf}
 use Rattle.listing.specs.Listing.{before, combinations}
 use Rattle.search.specs.Search.{candidatesOf, candidates, leastFrom, searchOf}
-use Rattle.tables.specs.Rows.{row, span, before as earlier, ascending, begins, keep, matching, flat}
+use Rattle.lists.specs.Span.{span}
+use Rattle.tables.specs.Rows.{row, before as earlier, ascending, begins, keep, matching, flat}
 use Rattle.tables.specs.Check.{sameRow, isAmong, missingFault, tablesFault}
 use Rattle.tables.proofs.Order.{both}
 use Rattle.tables.proofs.Pigeonhole.{same-equal}
@@ -28,7 +29,7 @@ use Rattle.eval.specs.Evaluation.{evaluationFault, evaluateOf, bufferAfter}
 use Rattle.examples.specs.Table.{scanWords, answer, Line, table, hold}
 
 pub claim : hold table ≡ true
-unfolding table hold answer scanWords sameRow planOf planFault queryFault capacityFault variablesFault constants statementsFault selectsFault unusedFault named boundTwiceFault planFor scansFor scanOf slotsOfConstants padded combinations before costOf flowsFault countsFault outOutFault weightFault weight indexUsed keyUsed searchOf candidates candidatesOf leastFrom factorial upFrom listed answerAt nextOf elementsFault stopFrom cleared swapped rowList visits visited standing each slotsAt matching keep begins span row flat evaluateOf bufferAfter evaluationFault checkOf initializationFault scansFault scanFault slotFault isSet written unsetFault planSelectsFault tablesFault missingFault isAmong ascending earlier window
+unfolding table hold answer scanWords sameRow planOf planFault queryFault capacityFault variablesFault constants statementsFault selectsFault unusedFault named boundTwiceFault planFor scansFor scanOf slotsOfConstants padded combinations before costOf flowsFault countsFault outOutFault weightFault weight indexUsed keyUsed searchOf candidates candidatesOf leastFrom factorial span listed answerAt nextOf elementsFault stopFrom cleared swapped rowList visits visited standing each slotsAt matching keep begins row flat evaluateOf bufferAfter evaluationFault checkOf initializationFault scansFault scanFault slotFault isSet written unsetFault planSelectsFault tablesFault missingFault isAmong ascending earlier window
 claim = refl
 
 -- from the claim, each line

@@ -12,7 +12,8 @@ use Rattle.query.specs.Query.{named}
 use Rattle.query_check.specs.Refusals.{constants, statementsFault, selectsFault, unusedFault, capacityFault, variablesFault, queryFault}
 use Rattle.planner.specs.Refusals.{boundTwiceFault, planFault}
 use Rattle.planner.specs.Planning.{slotsOfConstants, scanOf, scansFor, planFor, planOf}
-use Rattle.tables.specs.Rows.{row, span, before, ascending, begins, keep, matching}
+use Rattle.lists.specs.Span.{span}
+use Rattle.tables.specs.Rows.{row, before, ascending, begins, keep, matching}
 use Rattle.tables.specs.Check.{sameRow, isAmong, missingFault, tablesFault}
 use Rattle.tables.specs.Passed.{Passed}
 use Rattle.tables.proofs.Promises.{tables-pass}

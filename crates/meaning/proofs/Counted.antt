@@ -8,7 +8,8 @@ use native.Mathlib.Nat.{not-suc-le-zero}
 use native.Mathlib.Decide.{ℕ-discrete}
 use Rattle.orders.proofs.Counts.{same, holds, timesIn, holds-yes, holds-no, timesIn-append}
 use Rattle.search.proofs.Arranged.{sum}
-use Rattle.tables.specs.Rows.{span, keep}
+use Rattle.lists.specs.Span.{span}
+use Rattle.tables.specs.Rows.{keep}
 use Rattle.visits.specs.Visits.{each}
 
 -- a list stands in the lists of each number as often as in all of them together

@@ -7,7 +7,7 @@ use lib.ListN.{length, getD, length-map}
 use Rattle.capacity.specs.Capacity.{maxSearched}
 use Rattle.refusal.specs.declared.Verdict.the-variants.{Fine}
 use Rattle.refusal.proofs.Fine.{or-fine}
-use Rattle.orders.proofs.Lists.{length-upFrom}
+use Rattle.orders.proofs.Lists.{length-span}
 use Rattle.query.specs.declared.Query.{Query}
 use Rattle.query.specs.Query.{statementsOf, zeroStatement}
 use Rattle.plan.specs.declared.Scan.{Scan}
@@ -29,7 +29,7 @@ module _ (q : Query) (clear : Clear q) (few : q .«where_statements» .count ≤
   listed-few : (o : List ℕ) (l : List Scan) → SoundOrder q o → ListedIn q o l → length l ≤ maxSearched
   listed-few o l sound listed =
       let a = length-map o (λ i. getD (statementsOf q) i zeroStatement) in
-      let b = length-upFrom 0 (q .«where_statements» .count) in
+      let b = length-span 0 (q .«where_statements» .count) in
       let c = same-length (same-listed _ l listed) in
       let d = length-scans [] (arranged (statementsOf q) o) (q .«variable_count») in
       omega (arith, a, b, c, d, sound .order .long)

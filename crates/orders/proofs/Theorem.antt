@@ -12,7 +12,7 @@ use Rattle.permutation.specs.Swaps.{given, noSwap, start}
 use Rattle.orders.specs.Lists.{upTo, OrderOf, factorial}
 use Rattle.orders.specs.Heap.{heap}
 use Rattle.orders.specs.Listing.{answerIn, orderAt, listed, Complete}
-use Rattle.orders.proofs.Lists.{length-upFrom, times-upFrom}
+use Rattle.orders.proofs.Lists.{length-span, times-span}
 use Rattle.orders.proofs.Counts.{timesIn}
 use Rattle.orders.proofs.Act.{visits, within-heap, length-heap}
 use Rattle.orders.proofs.Once.{once}
@@ -39,10 +39,10 @@ module _ (n : ℕ) (fits : n ≤ maxElements) where
   listed-once y o =
       let e : listed (factorial n) (start n) (upTo n) ≡ visits (heap n) (upTo n) =
       rw (← length-heap n) (listed-visits (heap n) (start n) (upTo n) (follows-start n fits)) in
-      ap (timesIn y) e ∙ once n (upTo n) y (length-upFrom 0 n) (λ v. times-upFrom v 0 n) o
+      ap (timesIn y) e ∙ once n (upTo n) y (length-span 0 n) (λ v. times-span v 0 n) o
 
   order-after : (t : ℕ) → OrderOf (upTo n) (orderAt t (start n) (upTo n))
-  order-after t = order-at t (heap n) (start n) (upTo n) (rw length-upFrom (within-heap n)) (follows-start n fits)
+  order-after t = order-at t (heap n) (start n) (upTo n) (rw length-span (within-heap n)) (follows-start n fits)
 
   -- and nothing else stands there
   pub listed-only : (y : List ℕ) → (timesIn y (listed (factorial n) (start n) (upTo n)) ≡ 0 → ⊥) → OrderOf (upTo n) y

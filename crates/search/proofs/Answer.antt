@@ -16,7 +16,7 @@ use Rattle.refusal.specs.Verdict.{refused}
 use Rattle.lists.specs.Padded.{padded}
 use Rattle.lists.proofs.Padded.{padded-take, padded-other}
 use Rattle.orders.specs.Lists.{upTo, OrderOf}
-use Rattle.orders.proofs.Lists.{length-upFrom}
+use Rattle.orders.proofs.Lists.{length-span}
 use Rattle.query.specs.declared.Query.{Query}
 use Rattle.query.specs.declared.Statement.{Statement}
 use Rattle.query.specs.Query.{statementsOf, selectsOf}
@@ -95,7 +95,7 @@ module _ (q : Query) (able : Searchable q) where
     is-order = only-orders count (omega (arith, able .few)) o (w .2)
 
     front : take count (padded 0 maxSearched o) ≡ o
-    front = padded-take 0 maxSearched count o (is-order .long ∙ length-upFrom 0 count) (able .few)
+    front = padded-take 0 maxSearched count o (is-order .long ∙ length-span 0 count) (able .few)
 
     pub kept-orders : Orders count (kept c .order)
     kept-orders = rw (w .5) record { few = able .few; is-order = rw front is-order; zeros = rw front }

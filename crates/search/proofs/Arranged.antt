@@ -11,11 +11,12 @@ use mathlib.Core.Bool.{Bool, true, false, _||_}
 use lib.ListN.{length, getD, length-append, length-map}
 use lib.Seq.{ext-getD}
 use lib.Dec.{ltb}
+use Rattle.lists.specs.Span.{span}
 use Rattle.refusal.specs.declared.Verdict.the-variants.{Fine}
 use Rattle.refusal.specs.Verdict.{refuseIf}
 use Rattle.refusal.proofs.Fine.{refuse-fine, or-fine}
-use Rattle.orders.specs.Lists.{upFrom, upTo, one, times, OrderOf}
-use Rattle.orders.proofs.Lists.{times-append, length-upFrom}
+use Rattle.orders.specs.Lists.{upTo, one, times, OrderOf}
+use Rattle.orders.proofs.Lists.{times-append, length-span}
 use Rattle.query.specs.declared.Statement.{Statement}
 use Rattle.query.specs.Query.{names, named, zeroStatement}
 use Rattle.query_check.specs.Refusals.{constantsIn, constants, high, statementsFault, unusedFault}
@@ -58,11 +59,11 @@ sum-order f (a ∷ x) y o = go (parted a y (omega (arith, o .each a, ap one (eq-
         omega (arith, s, sum-append f u w, sum-append f u (a ∷ w), ap (sum f) e)
 
 -- the statements in their own order
-getD-upFrom : (a m i : ℕ) → i < m → getD (upFrom a m) i 0 ≡ a + i
-unfolding upFrom
-getD-upFrom a zero i h = absurd (not-suc-le-zero h)
-getD-upFrom a (suc m) zero h = omega arith
-getD-upFrom a (suc m) (suc i) h = getD-upFrom (suc a) m i (le-of-suc-le-suc h) ∙ omega arith
+getD-span : (a m i : ℕ) → i < m → getD (span a m) i 0 ≡ a + i
+unfolding span
+getD-span a zero i h = absurd (not-suc-le-zero h)
+getD-span a (suc m) zero h = omega arith
+getD-span a (suc m) (suc i) h = getD-span (a + 1) m i (le-of-suc-le-suc h) ∙ omega arith
 
 getD-arranged : (ss : List Statement) (o : List ℕ) (i : ℕ) → i < length o → getD (arranged ss o) i zeroStatement ≡ getD ss (getD o i 0) zeroStatement
 getD-arranged ss [] i h = absurd (not-suc-le-zero h)
@@ -74,10 +75,10 @@ arranged-all ss =
     ext-getD zeroStatement (arranged ss (upTo (length ss))) ss long
     (λ i h. let q : i < length (upTo (length ss)) = omega (arith, length-map (upTo (length ss)) (λ j. getD ss j zeroStatement)) in
     getD-arranged ss (upTo (length ss)) i q ∙
-    ap (λ (k : ℕ). getD ss k zeroStatement) (getD-upFrom 0 (length ss) i (omega (arith, long)) ∙ zero-add i))
+    ap (λ (k : ℕ). getD ss k zeroStatement) (getD-span 0 (length ss) i (omega (arith, long)) ∙ zero-add i))
   where
     long : length (arranged ss (upTo (length ss))) ≡ length ss
-    long = length-map (upTo (length ss)) (λ j. getD ss j zeroStatement) ∙ length-upFrom 0 (length ss)
+    long = length-map (upTo (length ss)) (λ j. getD ss j zeroStatement) ∙ length-span 0 (length ss)
 
 -- constants and names are sums
 constants-sum : (ss : List Statement) (o : List ℕ) → constants (arranged ss o) ≡ sum (λ i. constantsIn (getD ss i zeroStatement .value)) o
@@ -132,12 +133,12 @@ times-at [] i h = absurd (not-suc-le-zero h)
 times-at (x ∷ o) zero h = omega (arith, ap one (eq-eqb x x refl))
 times-at (x ∷ o) (suc i) h = omega (arith, times-at o i (le-of-suc-le-suc h))
 
-times-high : (v a m : ℕ) → a + m ≤ v → times v (upFrom a m) ≡ 0
-unfolding times upFrom
+times-high : (v a m : ℕ) → a + m ≤ v → times v (span a m) ≡ 0
+unfolding times span
 times-high v a zero h = refl
 times-high v a (suc m) h =
     let d : (v ≡ a) → ⊥ = λ e. omega (arith, e) in
-    omega (arith, ap one (ne-eqb v a d), times-high v (suc a) m (omega arith))
+    omega (arith, ap one (ne-eqb v a d), times-high v (a + 1) m (omega arith))
 
 pub order-below : (n : ℕ) (o : List ℕ) → OrderOf (upTo n) o → (i : ℕ) → i < length o → getD o i 0 < n
 order-below n o p i h = go (ltb (getD o i 0) n) refl
@@ -148,7 +149,7 @@ order-below n o p i h = go (ltb (getD o i 0) n) refl
 
 module _ (ss : List Statement) (o : List ℕ) (order : OrderOf (upTo (length ss)) o) where
   pub length-order : length (arranged ss o) ≡ length ss
-  length-order = length-map o (λ j. getD ss j zeroStatement) ∙ order .long ∙ length-upFrom 0 (length ss)
+  length-order = length-map o (λ j. getD ss j zeroStatement) ∙ order .long ∙ length-span 0 (length ss)
 
   pub statements-order : (n : ℕ) → statementsFault n ss 0 ≡ Fine → statementsFault n (arranged ss o) 0 ≡ Fine
   statements-order n e = none-low n (arranged ss o) 0 (many-order (high n) ss o order ∙ low-none n ss 0 e)

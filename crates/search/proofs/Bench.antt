@@ -2,6 +2,7 @@
 use mathlib.Core.Path.{_≡_, refl}
 use Prim.Native.Nat.{ℕ}
 use mathlib.Core.List.{List, [], _∷_}
+use Rattle.lists.specs.Span.{span}
 use Rattle.refusal.specs.Verdict.{refused}
 use Rattle.query.specs.declared.Statement.{Statement}
 use Rattle.query.specs.declared.QueryValue.the-variants.{Const, Var as Variable}
@@ -10,7 +11,7 @@ use Rattle.query.specs.Query.{named}
 use Rattle.query_check.specs.Refusals.{constants, statementsFault, selectsFault, unusedFault, capacityFault, variablesFault, queryFault}
 use Rattle.lists.specs.Padded.{padded}
 use Rattle.permutation.specs.Swaps.{elementsFault, stopFrom, cleared, nextOf}
-use Rattle.orders.specs.Lists.{swapped, upFrom, factorial}
+use Rattle.orders.specs.Lists.{swapped, factorial}
 use Rattle.orders.specs.Listing.{listed}
 use Rattle.cost.specs.Cost.{indexUsed, keyUsed, weight}
 use Rattle.planner.specs.Refusals.{boundTwiceFault}
@@ -44,5 +45,5 @@ record Bench : Type 0 where
   alone-refused : searchOf alone .verdict ≡ refused 18 0
 
 bench : Bench
-unfolding e turned alone query relates searchOf queryFault capacityFault variablesFault constants statementsFault selectsFault unusedFault named factorial upFrom listed nextOf elementsFault stopFrom cleared swapped candidates candidatesOf boundTwiceFault scansFor scanOf combinations before weight indexUsed keyUsed leastFrom padded
+unfolding e turned alone query relates searchOf queryFault capacityFault variablesFault constants statementsFault selectsFault unusedFault named factorial span listed nextOf elementsFault stopFrom cleared swapped candidates candidatesOf boundTwiceFault scansFor scanOf combinations before weight indexUsed keyUsed leastFrom padded
 bench = record { e-cost = refl; turned-order = refl; turned-cost = refl; alone-refused = refl }

@@ -7,11 +7,12 @@ use native.Mathlib.Omega.{arith}
 use mathlib.Core.List.{List, [], _∷_, _++_, map-append}
 use lib.ListN.{length, getD, take, set, replicate, length-map}
 use lib.Seq.{length-take-le, take-suc, getD-take}
+use Rattle.lists.specs.Span.{span}
 use Rattle.capacity.specs.Capacity.{maxStatements, maxSearched}
 use Rattle.lists.specs.Padded.{padded}
 use Rattle.lists.proofs.Padded.{padded-length, padded-none, padded-more}
-use Rattle.orders.specs.Lists.{upFrom, upTo}
-use Rattle.orders.proofs.Lists.{length-upFrom}
+use Rattle.orders.specs.Lists.{upTo}
+use Rattle.orders.proofs.Lists.{length-span}
 use Rattle.query.specs.declared.Statement.{Statement}
 use Rattle.query.specs.Query.{zeroStatement}
 use Rattle.search.specs.Search.{arranged}
@@ -47,17 +48,17 @@ module _ (count : ℕ) (given : List Statement) (order : List ℕ) (o : Orders c
       (rw l at p) ∙ ap (padded zeroStatement maxStatements) (sym (rw (add-one, take-suc order i 0 n, map-append, e)))
 
 -- the same for the numbers 0, 1, ..
-upFrom-more : (a m : ℕ) → upFrom a (suc m) ≡ upFrom a m ++ ((a + m) ∷ [])
-unfolding upFrom
-upFrom-more a zero = ap (λ (x : ℕ). x ∷ []) (omega arith)
-upFrom-more a (suc m) = ap (λ (l : List ℕ). a ∷ l) (upFrom-more (suc a) m ∙ ap (λ (x : ℕ). upFrom (suc a) m ++ (x ∷ [])) (omega arith))
+span-more : (a m : ℕ) → span a (suc m) ≡ span a m ++ ((a + m) ∷ [])
+unfolding span
+span-more a zero = ap (λ (x : ℕ). x ∷ []) (omega arith)
+span-more a (suc m) = ap (λ (l : List ℕ). a ∷ l) (span-more (a + 1) m ∙ ap (λ (x : ℕ). span (a + 1) m ++ (x ∷ [])) (omega arith))
 
 pub numbers-start : replicate maxSearched 0 ≡ padded 0 maxSearched (upTo 0)
-unfolding upFrom
+unfolding span
 numbers-start = sym (padded-none 0 maxSearched)
 
 pub numbers-more : (i : ℕ) → i < maxSearched → set (padded 0 maxSearched (upTo i)) i i ≡ padded 0 maxSearched (upTo (i + 1))
 numbers-more i h =
-    let l = length-upFrom 0 i in
+    let l = length-span 0 i in
     let p = padded-more 0 maxSearched (upTo i) i (omega (arith, l)) in
-    (rw l at p) ∙ ap (padded 0 maxSearched) (sym (rw add-one (upFrom-more 0 i ∙ ap (λ (x : ℕ). upTo i ++ (x ∷ [])) (zero-add i))))
+    (rw l at p) ∙ ap (padded 0 maxSearched) (sym (rw add-one (span-more 0 i ∙ ap (λ (x : ℕ). upTo i ++ (x ∷ [])) (zero-add i))))

@@ -17,7 +17,7 @@ use Rattle.permutation.specs.Swaps.{given, start, elementsFault, freshOf, nextO
 use Rattle.orders.specs.Lists.{swapped, upTo, factorial}
 use Rattle.orders.specs.Heap.{heap}
 use Rattle.orders.specs.Listing.{answerAt, answerIn}
-use Rattle.orders.proofs.Lists.{length-upFrom, length-swapped, swapped-append, order-swapped, order-refl, order-trans}
+use Rattle.orders.proofs.Lists.{length-span, length-swapped, swapped-append, order-swapped, order-refl, order-trans}
 use Rattle.orders.proofs.Act.{visits, Within, within-heap, length-heap}
 use Rattle.orders.proofs.Machine.{Follows, follows-start}
 use Rattle.orders.proofs.Listed.{listed-visits}
@@ -71,7 +71,7 @@ module _ (count : ℕ) (order : List ℕ) (o : Orders count order) where
 -- the first order
 pub orders-first : (count : ℕ) → count ≤ maxSearched → Orders count (padded 0 maxSearched (upTo count))
 orders-first count h =
-    let e = padded-take 0 maxSearched count (upTo count) (length-upFrom 0 count) h in
+    let e = padded-take 0 maxSearched count (upTo count) (length-span 0 count) h in
     record { few = h; is-order = rw e (order-refl (upTo count)); zeros = rw e }
 
 -- the orders still to come
@@ -96,7 +96,7 @@ pub round-start : (q : Query) → Searchable q → Round q none (padded 0 maxSea
 round-start q able =
     let n = q .«where_statements» .count in
     let fits : n ≤ maxElements = omega (arith, able .few) in
-    let e = padded-take 0 maxSearched n (upTo n) (length-upFrom 0 n) (able .few) in
+    let e = padded-take 0 maxSearched n (upTo n) (length-span 0 n) (able .few) in
     let f = follows-start n fits in
     let v : visits (heap n) (upTo n) ≡ orders n = sym (listed-visits (heap n) (start n) (upTo n) f) ∙ rw (length-heap n) in
     record {

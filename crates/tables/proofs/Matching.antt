@@ -8,7 +8,8 @@ use native.Mathlib.Nat.{add-zero, zero-add, suc-add}
 use lib.ListN.{length, take, drop, length-drop}
 use lib.Seq.{length-take-le}
 use Rattle.datom.specs.Fact.{words}
-use Rattle.tables.specs.Rows.{count, row, span, rowsOf, ascending, begins, keep, matching, flat, Bound, Range}
+use Rattle.lists.specs.Span.{span}
+use Rattle.tables.specs.Rows.{count, row, rowsOf, ascending, begins, keep, matching, flat, Bound, Range}
 use Rattle.tables.proofs.Order.{begins-passes}
 use Rattle.tables.proofs.Table.{flat-rows}
 

@@ -13,7 +13,8 @@ use Rattle.refusal.specs.declared.Verdict.the-variants.{Fine}
 use Rattle.refusal.specs.Verdict.{refuseIf}
 use Rattle.refusal.proofs.Fine.{refuse-fine, or-fine}
 use Rattle.datom.specs.Fact.{Fact, words, aevtRow, avetRow, eavtRow}
-use Rattle.tables.specs.Rows.{count, row, span, rowsOf, ascending, factOf}
+use Rattle.lists.specs.Span.{span}
+use Rattle.tables.specs.Rows.{count, row, rowsOf, ascending, factOf}
 use Rattle.tables.specs.Check.{isAmong, lengthsFault, orderFault, missingFault, tablesFault}
 use Rattle.tables.specs.Passed.{Sorted, Passed}
 use Rattle.tables.proofs.Order.{both}

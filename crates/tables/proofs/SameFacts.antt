@@ -8,7 +8,8 @@ use native.Mathlib.Omega.{arith}
 use native.Mathlib.Nat.{eq-or-lt-of-le}
 use lib.ListN.{length, length-map}
 use Rattle.datom.specs.Fact.{Fact, aevtRow}
-use Rattle.tables.specs.Rows.{count, row, span, rowsOf, ascending, factOf}
+use Rattle.lists.specs.Span.{span}
+use Rattle.tables.specs.Rows.{count, row, rowsOf, ascending, factOf}
 use Rattle.tables.specs.Check.{sameRow, isAmong}
 use Rattle.tables.specs.Passed.{Once}
 use Rattle.tables.proofs.Order.{no-yes, lt-or-ge, passes-self}

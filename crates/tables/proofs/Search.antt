@@ -7,7 +7,8 @@ use Prim.Native.Nat.{ℕ, zero, suc, _+_, _-_, _≤_, _<_}
 use native.Mathlib.Omega.{arith}
 use native.Mathlib.Numerals.{add-one}
 use native.Mathlib.Nat.{eq-or-lt-of-le, le-of-suc-le-suc}
-use Rattle.tables.specs.Rows.{count, row, span, rowsOf, before, ascending, passes, Bound}
+use Rattle.lists.specs.Span.{span}
+use Rattle.tables.specs.Rows.{count, row, rowsOf, before, ascending, passes, Bound}
 use Rattle.tables.proofs.Order.{no-yes, both, passes-before, passes-mono}
 
 -- of ascending rows each comes before the next

@@ -9,7 +9,8 @@ use native.Mathlib.Nat.{add-zero, eq-or-lt-of-le}
 use lib.ListN.{length, getD, take, drop, length-drop, drop-of-length-le}
 use lib.Seq.{getD-take, getD-drop, length-take-le, take-add, drop-drop}
 use Rattle.datom.specs.Fact.{words}
-use Rattle.tables.specs.Rows.{count, row, span, before, ascending, passes, flat}
+use Rattle.lists.specs.Span.{span}
+use Rattle.tables.specs.Rows.{count, row, before, ascending, passes, flat}
 use Rattle.tables.specs.Check.{sameRow, isAmong}
 use Rattle.tables.proofs.Order.{passes-before}
 

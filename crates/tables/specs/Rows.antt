@@ -1,10 +1,11 @@
 -- 01, "Tables and rows": a table is a list of words, some words a row, strictly ascending word by word.
 use mathlib.Core.Path.{_≡_}
-use Prim.Native.Nat.{ℕ, zero, suc, _+_, _*_, _-_, _/_, _%_, _≤_, _<_}
+use Prim.Native.Nat.{ℕ, _+_, _*_, _-_, _/_, _%_, _≤_, _<_}
 use mathlib.Core.List.{List, [], _∷_, _++_, map}
 use mathlib.Core.Bool.{Bool, true, false, cond, _&&_, _||_}
 use lib.ListN.{length, getD, take, drop}
 use lib.Dec.{ltb, eqb}
+use Rattle.lists.specs.Span.{span}
 use Rattle.datom.specs.Fact.{Fact, words}
 
 -- how many rows a table has
@@ -14,11 +15,6 @@ count t = length t / words
 -- the words of row i
 unfoldable pub row : List ℕ → ℕ → List ℕ
 row t i = take words (drop (words * i) t)
-
--- i, i + 1, ..: so many of them
-unfoldable pub span : ℕ → ℕ → List ℕ
-span i zero = []
-span i (suc n) = i ∷ span (i + 1) n
 
 -- the rows of a table, in table order
 abbrev pub rowsOf : List ℕ → List (List ℕ)

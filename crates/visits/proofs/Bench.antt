@@ -1,7 +1,8 @@
 -- 01's bench: triples (1,5,10) (1,5,11) (2,5,11) (10,9,6) (11,9,7): E yields rows 11, 11.
 use mathlib.Core.Path.{_≡_, refl}
 use mathlib.Core.List.{[], _∷_}
-use Rattle.tables.specs.Rows.{row, span, begins, keep, matching}
+use Rattle.lists.specs.Span.{span}
+use Rattle.tables.specs.Rows.{row, begins, keep, matching}
 use Rattle.plan.specs.declared.SlotDefinition.the-variants.{Variable, Constant}
 use Rattle.plan.specs.declared.Plan.{Plan}
 use Rattle.plan.specs.declared.Index.the-variants.{Aevt}

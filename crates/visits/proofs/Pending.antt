@@ -8,7 +8,7 @@ use native.Mathlib.Omega.{arith}
 use native.Mathlib.Nat.{eq-or-lt-of-le, le-of-suc-le-suc}
 use lib.ListN.{length, getD, set, take, drop, length-append}
 use lib.Seq.{getD-set-same, getD-set-other, take-suc, drop-cons, length-take-le}
-use Rattle.tables.specs.Rows.{span}
+use Rattle.lists.specs.Span.{span}
 use Rattle.tables.proofs.Table.{span-step, span-end}
 use Rattle.plan.specs.declared.Scan.{Scan}
 use Rattle.plan.specs.Plan.{zeroScan}

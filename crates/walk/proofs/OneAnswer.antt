@@ -5,7 +5,8 @@ use mathlib.Core.Bool.{Bool, true, false}
 use mathlib.Core.List.{List}
 use Prim.Native.Nat.{ℕ, suc, _-_}
 use Rattle.refusal.proofs.OneAnswer.{one-answer}
-use Rattle.tables.specs.Rows.{span, rowsOf, ascending}
+use Rattle.lists.specs.Span.{span}
+use Rattle.tables.specs.Rows.{rowsOf, ascending}
 use Rattle.plan.specs.declared.Scan.{Scan}
 use Rattle.visits.specs.Visits.{Tables, tableOf}
 use Rattle.visits.proofs.Pending.{current}

@@ -4,7 +4,8 @@ use Prim.Native.Nat.{ℕ, suc, _+_, _*_, _-_, _<_, _≤_}
 use mathlib.Core.Bool.{Bool, true, false}
 use mathlib.Core.List.{List, [], _∷_}
 use lib.ListN.{length, getD, take, drop}
-use Rattle.tables.specs.Rows.{count, rowsOf, ascending, matching, span}
+use Rattle.lists.specs.Span.{span}
+use Rattle.tables.specs.Rows.{count, rowsOf, ascending, matching}
 use Rattle.plan.specs.declared.Scan.{Scan}
 use Rattle.plan.specs.declared.Index.{Index}
 use Rattle.plan.specs.Plan.{firstSlot, secondSlot, zeroScan}

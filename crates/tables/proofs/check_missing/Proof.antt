@@ -10,7 +10,8 @@ use borrow.Author.Tests.{not-true, not-false}
 use lib.ListN.{getD}
 use Rattle.refusal.specs.Verdict.{refuseIf, orElse}
 use Rattle.datom.specs.Fact.{words}
-use Rattle.tables.specs.Rows.{count, row, span, rowsOf}
+use Rattle.lists.specs.Span.{span}
+use Rattle.tables.specs.Rows.{count, row, rowsOf}
 use Rattle.tables.specs.Check.{isAmong, missingFault}
 use Rattle.tables.proofs.Table.{row-key, span-step, span-end}
 use Rattle.tables.proofs.check_missing.Statement.{statement}

@@ -6,7 +6,8 @@ use Prim.Native.Nat.{_≤_, _+_, _-_}
 use native.Mathlib.Omega.{arith}
 use native.Mathlib.Nat.{sub-zero}
 use borrow.Author.Tests.{not-true, not-false}
-use Rattle.tables.specs.Rows.{count, row, span, rowsOf, before, ascending}
+use Rattle.lists.specs.Span.{span}
+use Rattle.tables.specs.Rows.{count, row, rowsOf, before, ascending}
 use Rattle.tables.proofs.Table.{passes-row, ascending-step, ascending-end}
 use Rattle.tables.proofs.is_ascending.Statement.{statement}
 use Rattle.tables.proofs.is_ascending.Tie as tie
