@@ -1,4 +1,4 @@
-// Writes cases for crates/answers, or the answers to them: queries over small tables, drawn at random, and the rows that 002 yields for
+// Makes cases for crates/answers and the answers to them: queries over small tables, drawn at random, and the rows that 002 yields for
 // every plan that 000 lists (compare/run says how they are built, unchanged, with stand-ins). These are also held to demand 3, read by
 // brute force: the assignments that make every statement a fact. The cases of a seed have each sound order of a query as a case.
 #[path = "../target/compare/eval.rs"]
@@ -16,26 +16,26 @@ mod held;
 mod query;
 mod query_cases;
 mod random;
+mod table_cases;
 
 use database::{heap, store, tables, View};
 use datom::Tid;
 use eval::Evaluator;
-use held::Held;
+use held::{drive, Held, Pair, TABLES};
 use permutation::Permutations;
 use plan::Plan;
 use planner::Planner;
 use query_cases::{bound_twice, numbers, query_of, refusal, Case};
 use random::Random;
+use table_cases::CASES;
 
 type Fact = (u64, u64, u64);
 type Facts<'a> = View<'a, database::Nothing, database::Nothing>;
 
-// What the Rattle program has room for: words of a buffer, windows of a plan, plans of a query, queries over tables, bytes of input.
+// What the Rattle program has room for: words of a buffer, windows of a plan, plans of a query.
 const ROOM: usize = 16;
 const WINDOWS: usize = 60;
 const LISTED: usize = 500;
-const CASES: usize = 100;
-const INPUT: usize = 65536;
 
 // The most rows of a query, and the most plans of all its orders.
 const ROWS: usize = 40;
@@ -45,11 +45,6 @@ const ATTRIBUTES: [u64; 3] = [5, 7, 9];
 
 // A query, and the words of room for its rows.
 struct Window(Case, usize);
-
-struct Group {
-    facts: Vec<Fact>,
-    windows: Vec<Window>,
-}
 
 // The rows of a plan, in 002's order.
 fn rows(plan: &Plan, view: &Facts, most: usize) -> Vec<Vec<u64>> {
@@ -167,31 +162,6 @@ fn drawn_room(random: &mut Random, case: &Case) -> usize {
     width * (1 + random.below(4) as usize) + random.below(width as u64) as usize
 }
 
-fn groups() -> Vec<Group> {
-    let mut random = Random(20260104);
-    let mut out = Vec::new();
-    for i in 0..60 {
-        let count = if i < 4 { i / 2 } else { 4 + random.below(18) };
-        let facts = drawn_facts(&mut random, count);
-        let windows = (0..8).map(|_| drawn(&mut random, &facts, &|_| {}, 4)).collect();
-        out.push(Group { facts: facts, windows: windows });
-    }
-    out
-}
-
-fn group_numbers(group: &Group) -> String {
-    let mut out = Vec::new();
-    for table in &tables(&group.facts) {
-        out.push(table.len().to_string());
-        out.extend(table.iter().map(|w| w.to_string()));
-    }
-    out.push(group.windows.len().to_string());
-    for &Window(ref case, room) in &group.windows {
-        out.push(format!("{} {}", numbers(case), room));
-    }
-    out.join(" ")
-}
-
 // The rows of each plan in windows, where `meant` are the rows that they must have, each plan in an order of its own.
 fn answer(view: &Facts, window: &Window, meant: &[Vec<u64>]) -> String {
     let &Window(ref case, room) = window;
@@ -207,6 +177,27 @@ fn answer(view: &Facts, window: &Window, meant: &[Vec<u64>]) -> String {
         assert!(rows.len() <= WINDOWS * (room / width));
         out += &in_windows(rows, width, room);
         out += "\n";
+    }
+    out
+}
+
+// Queries over the same facts, as `replay` reads them.
+fn over(facts: &[Fact], windows: &[Window]) -> String {
+    let cases: Vec<String> = windows.iter().map(|window| table_cases::query(&numbers(&window.0), window.1)).collect();
+    held::case(TABLES, &table_cases::numbers(&tables(facts), &cases))
+}
+
+fn made() -> Vec<Pair> {
+    misses_the_largest();
+    let mut random = Random(20260104);
+    let mut out = Vec::new();
+    for i in 0..60 {
+        let count = if i < 4 { i / 2 } else { 4 + random.below(18) };
+        let facts = drawn_facts(&mut random, count);
+        let windows: Vec<Window> = (0..8).map(|_| drawn(&mut random, &facts, &|_| {}, 4)).collect();
+        let view = View::new(&facts, Tid::min());
+        let answers = windows.iter().map(|window| answer(&view, window, &meant(&window.0, &facts))).collect();
+        out.push((over(&facts, &windows), answers));
     }
     out
 }
@@ -263,8 +254,7 @@ fn at_the_ends(number: u64) -> u64 {
 
 // Queries over drawn tables, up to 20 over the same. All sound orders of a query are cases where their plans are not too many, else the
 // given order is.
-fn hold(random: &mut Random, count: u64) {
-    let mut held = Held::new("answers");
+fn hold(held: &mut Held, random: &mut Random, count: u64) {
     let mut left = count;
     while 0 < left {
         let fact_count = random.below(22);
@@ -298,31 +288,12 @@ fn hold(random: &mut Random, count: u64) {
                 let lines = answers.lines().count();
                 held.count("plans", lines);
                 held.count("rows", lines * meant.len());
-                held.add(group_numbers(&Group { facts: facts.clone(), windows: windows }) + "\n", answers);
+                held.add((over(&facts, &windows), answers));
             }
         }
     }
-    held.end(count);
 }
 
 fn main() {
-    misses_the_largest();
-    if let Some((mut random, count)) = held::asked() {
-        return hold(&mut random, count);
-    }
-    let answers = std::env::args().nth(1) == Some("answers".to_string());
-    let mut input = 0;
-    for group in &groups() {
-        let line = group_numbers(group);
-        input += line.len() + 1;
-        assert!(input < INPUT);
-        if !answers {
-            println!("{}", line);
-            continue;
-        }
-        let view = View::new(&group.facts, Tid::min());
-        for window in &group.windows {
-            print!("{}", answer(&view, window, &meant(&window.0, &group.facts)));
-        }
-    }
+    drive("answers", &made, &hold);
 }

@@ -18,11 +18,12 @@ mod query;
 mod query_cases;
 mod random;
 mod rust_plan;
+mod table_cases;
 
 use database::{heap, store, tables, View};
 use datom::Tid;
 use eval::Evaluator;
-use held::written;
+use held::{written, PLANS, QUERIES, SEARCHES, SWAPS, TABLES, TEXTS};
 use permutation::Permutations;
 use plan::Plan;
 use plan_cases::{case, e, out_out, Case};
@@ -50,9 +51,9 @@ fn rust(case: &Case) -> Plan {
     rust_plan(case, &[])
 }
 
-// What crates/plans writes for a plan.
+// What `replay` writes for a plan.
 fn plans(case: &Case) -> String {
-    written("plans", &plan_cases::numbers(case))
+    written(&held::case(PLANS, &plan_cases::numbers(case)))
 }
 
 fn rows_by_002(plan: &Plan, facts: &[Fact], transaction: Tid) -> Vec<Vec<u64>> {
@@ -61,11 +62,9 @@ fn rows_by_002(plan: &Plan, facts: &[Fact], transaction: Tid) -> Vec<Vec<u64>> {
     rows
 }
 
-// What crates/evaluations writes for a plan over facts, from row 0, with four words of room.
+// What `replay` writes for a plan over facts, from row 0, with four words of room.
 fn evaluations(case: &Case, facts: &[Fact]) -> String {
-    let words = |table: &Vec<u64>| table.iter().map(|w| format!(" {}", w)).collect::<String>();
-    let tables: String = tables(facts).iter().map(|table| format!("{}{} ", table.len(), words(table))).collect();
-    written("evaluations", &format!("{}1 {} 0 4", tables, plan_cases::numbers(case)))
+    written(&held::case(TABLES, &table_cases::numbers(&tables(facts), &[table_cases::window(&plan_cases::numbers(case), 0, 4)])))
 }
 
 // 001 tests a scan's slots against the number of scans: all facts of an attribute; and 01's E.
@@ -124,11 +123,11 @@ fn variable_too_high() {
     let plan = Planner::plan(&query_cases::query_of(&silent));
     assert_eq!(plan_text(&plan), "scan 1 1 0 5 1, scan 0 2 0 9 1, variable, constant 7, select 0");
     assert_eq!(rows_by_002(&plan, &[(3, 5, 7), (3, 9, 7)], Tid::min()), vec![vec![3]]);
-    assert_eq!(written("queries", &query_cases::numbers(&silent)), "refused 14 at 0\n");
+    assert_eq!(written(&held::case(QUERIES, &query_cases::numbers(&silent))), "refused 14 at 0\n");
     let alone = query_cases::case(1, &[(0, 5, false, 1)], &[0]);
     let said = panic_of(&|| Planner::plan(&query_cases::query_of(&alone)));
     assert_eq!(said, "index out of bounds: the len is 1 but the index is 1");
-    assert_eq!(written("queries", &query_cases::numbers(&alone)), "refused 14 at 0\n");
+    assert_eq!(written(&held::case(QUERIES, &query_cases::numbers(&alone))), "refused 14 at 0\n");
 }
 
 // Both slots of an out-out scan on one slot: only the value is kept, and a row stands for no fact (x, 5, x).
@@ -138,8 +137,8 @@ fn both_on_one_slot() {
     assert_eq!(plan_text(&plan), "scan 0 0 0 5 0, variable, select 0");
     assert_eq!(rows_by_002(&plan, &[(1, 5, 2)], Tid::min()), vec![vec![2]]);
     let numbers = query_cases::numbers(&alone);
-    assert_eq!(written("queries", &numbers), "refused 16 at 0\n");
-    assert_eq!(written("searches", &numbers), "refused 18 at 0, order 0 0 0 0 0 0, cost 0, \n");
+    assert_eq!(written(&held::case(QUERIES, &numbers)), "refused 16 at 0\n");
+    assert_eq!(written(&held::case(SEARCHES, &numbers)), "refused 18 at 0, order 0 0 0 0 0 0, cost 0, \n");
     let plan = case(vec![(0, 0, 0, 5, 0)], vec![(false, 0)], vec![0]);
     assert!(panic_of(&|| rust(&plan).check_invariants()).contains("Scan 0 writes to slot 0, which is already initialized by Scan(0)."));
     assert_eq!(plans(&plan), "check refused 23 at 0, cost 120, next yes 1\n");
@@ -159,17 +158,17 @@ fn planned_by_000() {
     ];
     for (number, case) in refused {
         assert_eq!(Planner::plan(&query_cases::query_of(&case)).scans.len(), case.statements.len());
-        assert!(written("queries", &query_cases::numbers(&case)).starts_with(&format!("refused {} at ", number)));
+        assert!(written(&held::case(QUERIES, &query_cases::numbers(&case))).starts_with(&format!("refused {} at ", number)));
     }
     let many = query_cases::case(65536, &[e0], &[0]);
     assert_eq!(panic_of(&|| Planner::plan(&query_cases::query_of(&many))), "Can have at most 2^16 slots, slot index is u16.");
-    assert_eq!(written("queries", &query_cases::numbers(&many)), "refused 11 at 0\n");
+    assert_eq!(written(&held::case(QUERIES, &query_cases::numbers(&many))), "refused 11 at 0\n");
 }
 
 // The rest: a cost past 2^64 - 1 wraps (01's nine scans, and one more); a plan of no scans and a selected constant's name panic.
 fn the_rest() {
     assert_eq!(Permutations::new(49).next(), Some((0, 1)));
-    assert_eq!(written("swaps", "0 49 1").lines().last(), Some("none abcdefghijklmnopqrstuvwxyzabcdefghijklmnopqrstuv"));
+    assert_eq!(written(&held::case(SWAPS, "0 49 1")).lines().last(), Some("none abcdefghijklmnopqrstuvwxyzabcdefghijklmnopqrstuv"));
     let ten = out_out(10);
     let cost: u128 = 20 + 100 * (1050505050505050520 - 20 + 5);
     assert_eq!(rust(&ten).cost(), cost as u64);
@@ -179,7 +178,7 @@ fn the_rest() {
     assert_eq!(evaluations(&none, &[]), "refused 28 at 0, rows 0, none follows, buffer 77 77 77 77\n");
     assert_eq!(panic_of(&|| rust(&none).get_select_name(0).len()), "Constants cannot be selected.");
     // The text is as compare/printed.rs has it of the Rust, but for the constant.
-    let shown = written("texts", &format!("{} 0 1 0 0 1 20", plan_cases::numbers(&none)));
+    let shown = written(&held::case(TEXTS, &format!("{} 0 1 0 0 1 20 0", plan_cases::numbers(&none))));
     assert_eq!(shown, "name refused 29 at 0 []\ntext fine, length 19 [let :0 = 7\nyield :0~]\n");
 }
 

@@ -1,5 +1,5 @@
-// Writes cases for crates/evaluations, or the answers to them, by a plain reading of document 01: the refusals in its order, and the
-// rows by nested loops over all rows of a table, each row tested. The rows of drawn cases are held to 002 itself too, which knows
+// Makes cases for crates/evaluations and the answers to them, by a plain reading of document 01: the refusals in its order, and the rows
+// by nested loops over all rows of a table, each row tested. The rows of drawn cases are held to 002 itself too, which knows
 // neither windows nor refusals.
 #[path = "../target/compare/eval.rs"]
 mod eval;
@@ -12,26 +12,22 @@ mod held;
 mod plan_cases;
 mod random;
 mod rust_plan;
+mod table_cases;
 
 use database::{heap, store, View};
 use datom::Tid;
 use eval::Evaluator;
-use held::Held;
+use held::{drive, Held, Pair, TABLES};
 use plan_cases::{case, check, e, numbers, text, Case, Verdict};
 use random::Random;
 use rust_plan::rust_plan;
+use table_cases::Tables;
 
 const LARGEST: u64 = u64::max_value();
 
 // The room of a buffer that shows a refusal, and what its words hold before.
 const ROOM: usize = 6;
 const HELD: u64 = 77;
-
-// What the Rattle program has room for: cases over the same tables, and bytes of input.
-const CASES: usize = 100;
-const INPUT: usize = 65536;
-
-type Tables = [Vec<u64>; 3];
 
 // A plan, the row to start at, and the words of room.
 struct Window(Case, u64, usize);
@@ -133,17 +129,15 @@ fn answer(tables: &Tables, window: &Window) -> String {
     format!("{}, rows {}, {} buffer{}", text(verdict), count, if more { "more follow," } else { "none follows," }, words)
 }
 
-fn group_numbers(group: &Group) -> String {
-    let mut out = Vec::new();
-    for table in &group.tables {
-        out.push(table.len().to_string());
-        out.extend(table.iter().map(|w| w.to_string()));
+// The check of the tables by itself, and then the windows.
+fn pair(group: &Group) -> Pair {
+    let mut cases = vec![table_cases::check()];
+    let mut answers = format!("tables {}\n", text(table_fault(&group.tables)));
+    for window in &group.windows {
+        cases.push(table_cases::window(&numbers(&window.0), window.1, window.2));
+        answers += &(answer(&group.tables, window) + "\n");
     }
-    out.push(group.windows.len().to_string());
-    for &Window(ref plan, from, room) in &group.windows {
-        out.push(format!("{} {} {}", numbers(plan), from, room));
-    }
-    out.join(" ")
+    (held::case(TABLES, &table_cases::numbers(&group.tables, &cases)), answers)
 }
 
 // All facts of an attribute, over an index; selects entity and value.
@@ -168,6 +162,12 @@ fn bench() -> Tables {
         vec![5, 10, 1, 5, 11, 1, 5, 11, 2, 9, 6, 10, 9, 7, 11],
         vec![1, 5, 10, 1, 5, 11, 2, 5, 11, 10, 9, 6, 11, 9, 7],
     ]
+}
+
+// (2^64 - 1, 5, 2^64 - 1) and (1, 2^64 - 1, 2).
+fn large() -> Tables {
+    let m = LARGEST;
+    [vec![5, m, m, m, 1, 2], vec![5, m, m, m, 2, 1], vec![1, m, 2, m, 5, m]]
 }
 
 // Every window of a few sizes over the bench.
@@ -346,10 +346,9 @@ fn groups() -> Vec<Group> {
     for _ in 0..100 {
         out.push(over(drawn(&mut random), &[e(0, 0)], ROOM));
     }
-    // (2^64 - 1, 5, 2^64 - 1) and (1, 2^64 - 1, 2): the largest number in each column, and no facts at all.
+    // The largest number in each column, and no facts at all.
     let m = LARGEST;
-    let large = [vec![5, m, m, m, 1, 2], vec![5, m, m, m, 2, 1], vec![1, m, 2, m, 5, m]];
-    out.push(over(large, &[all(0, 5), all(1, 5), all(0, m), all(1, m), of_value(m), of_value(2)], 4));
+    out.push(over(large(), &[all(0, 5), all(1, 5), all(0, m), all(1, m), of_value(m), of_value(2)], 4));
     out.push(over([vec![], vec![], vec![]], &[all(0, 5)], 4));
     // 600 facts (i, 5, i + 1)
     let mut many = [Vec::new(), Vec::new(), Vec::new()];
@@ -361,6 +360,54 @@ fn groups() -> Vec<Group> {
     let windows = vec![Window(all(0, 5), 0, 6), Window(all(1, 5), 597, 6), Window(all(0, 5), 598, 6), Window(all(0, 5), 600, 6)];
     out.push(Group { tables: many, windows: windows });
     out
+}
+
+// A key: the number of its table, how many of its words count, and three words.
+struct Key(usize, usize, Vec<u64>);
+
+// Keys over tables, each ascending: the rows that begin with one, as numbers and as words, and whether it is a row itself.
+fn over_keys(tables: &Tables, keys: &[Key]) -> Pair {
+    let cases: Vec<String> = keys.iter().map(|key| table_cases::key(key.0, key.1, &key.2)).collect();
+    let mut answers = String::new();
+    for &Key(table, inputs, ref words) in keys {
+        let part = &words[..std::cmp::min(inputs, 3)];
+        let rows: Vec<&[u64]> = tables[table].chunks(3).collect();
+        let low = rows.iter().filter(|row| row[..part.len()] < *part).count();
+        let found: Vec<&&[u64]> = rows.iter().filter(|row| row.starts_with(part)).collect();
+        let is_row = if rows.contains(&&words[..]) { "a row" } else { "no row" };
+        let shown: String = found.iter().flat_map(|row| row.iter()).map(|w| format!(" {}", w)).collect();
+        answers += &format!("key {} {}, {}:{}\n", low, low + found.len(), is_row, shown);
+    }
+    (held::case(TABLES, &table_cases::numbers(tables, &cases)), answers)
+}
+
+// The tables of stored keys.
+fn keyed() -> Vec<Tables> {
+    vec![bench(), large(), [vec![], vec![], vec![]]]
+}
+
+// Of each table: each row, and a key that is none, by every count of words and one more.
+fn keys(tables: &Tables) -> Vec<Key> {
+    let mut out = Vec::new();
+    for (table, words) in tables.iter().enumerate() {
+        let other = [5, LARGEST, 1];
+        for row in words.chunks(3).chain(other.chunks(3)) {
+            out.extend((0..5).map(|inputs| Key(table, inputs, row.to_vec())));
+        }
+    }
+    out
+}
+
+// A key over the tables, of a row or of any words.
+fn drawn_key(random: &mut Random, tables: &Tables, number: &Fn(u64) -> u64) -> Key {
+    let table = random.below(3) as usize;
+    let rows = tables[table].len() as u64 / 3;
+    let mut words: Vec<u64> = (0..3).map(|_| number(random.below(9))).collect();
+    if 0 < rows && random.below(3) != 0 {
+        let at = 3 * random.below(rows) as usize;
+        words = tables[table][at..at + 3].to_vec();
+    }
+    Key(table, random.below(5) as usize, words)
 }
 
 // Facts of attributes below 3 and few numbers, as the plans of compare/plan_cases.rs have them.
@@ -396,8 +443,7 @@ fn damaged_table(random: &mut Random, tables: &mut Tables) {
     }
 }
 
-fn hold(random: &mut Random, count: u64) {
-    let mut held = Held::new("evaluations");
+fn hold(held: &mut Held, random: &mut Random, count: u64) {
     let mut left = count;
     while 0 < left {
         let (high, largest) = (2 + random.below(4), random.below(4) == 0);
@@ -430,29 +476,16 @@ fn hold(random: &mut Random, count: u64) {
             }
             windows.push(Window(plan, from, random.below(ROOM as u64 + 1) as usize));
         }
-        let answers: String = windows.iter().map(|window| answer(&tables, window) + "\n").collect();
-        held.add(group_numbers(&Group { tables: tables, windows: windows }) + "\n", answers);
+        if table_fault(&tables).is_none() {
+            let keys: Vec<Key> = (0..4).map(|_| drawn_key(random, &tables, &number)).collect();
+            held.count("keys", keys.len());
+            held.add(over_keys(&tables, &keys));
+        }
+        held.add(pair(&Group { tables: tables, windows: windows }));
     }
-    held.end(count);
 }
 
 fn main() {
-    if let Some((mut random, count)) = held::asked() {
-        return hold(&mut random, count);
-    }
-    let answers = std::env::args().nth(1) == Some("answers".to_string());
-    let mut input = 0;
-    for group in &groups() {
-        assert!(group.windows.len() <= CASES);
-        let line = group_numbers(group);
-        input += line.len() + 1;
-        assert!(input < INPUT);
-        if !answers {
-            println!("{}", line);
-            continue;
-        }
-        for window in &group.windows {
-            println!("{}", answer(&group.tables, window));
-        }
-    }
+    let made = || groups().iter().map(pair).chain(keyed().iter().map(|tables| over_keys(tables, &keys(tables)))).collect();
+    drive("evaluations", &made, &hold);
 }

@@ -6,28 +6,38 @@ pub const SCANS: usize = 48;
 pub const SLOTS: usize = 96;
 pub const SELECTS: usize = 32;
 
+// Index, flow, entity, attribute, value.
+pub type Scan = (usize, usize, u16, u64, u16);
+
 // A plan as the Rattle has it: what is given of its arrays, and counts that may claim anything.
 #[derive(Clone)]
 pub struct Case {
     pub scan_count: u64,
     pub slot_count: u64,
     pub select_count: u64,
-    pub scans: Vec<(usize, usize, u16, u64, u16)>,
+    pub scans: Vec<Scan>,
     pub slots: Vec<(bool, u64)>,
     pub select: Vec<u16>,
 }
 
 pub type Verdict = Option<(u64, u64)>;
 
-pub fn in_order(scan: &(usize, usize, u16, u64, u16)) -> [usize; 2] {
+pub fn in_order(scan: &Scan) -> [usize; 2] {
     let (index, _, entity, _, value) = *scan;
     if index == 1 { [value as usize, entity as usize] } else { [entity as usize, value as usize] }
 }
 
+// 20.
+pub fn counts_fault(case: &Case) -> Verdict {
+    let over = case.slot_count > SLOTS as u64 || case.scan_count > SCANS as u64 || case.select_count > SELECTS as u64;
+    if over { Some((20, 0)) } else { None }
+}
+
 // 01's table, plan check: 20, 13, then scan by scan (21; 22, then 23 or 24 for each slot), then 25, 26.
 pub fn check(case: &Case) -> Verdict {
-    if case.slot_count > SLOTS as u64 || case.scan_count > SCANS as u64 || case.select_count > SELECTS as u64 {
-        return Some((20, 0));
+    let counts = counts_fault(case);
+    if counts.is_some() {
+        return counts;
     }
     if case.select_count == 0 {
         return Some((13, 0));
@@ -85,7 +95,7 @@ pub fn numbers(case: &Case) -> String {
     out.iter().map(|n| n.to_string()).collect::<Vec<_>>().join(" ")
 }
 
-pub fn case(scans: Vec<(usize, usize, u16, u64, u16)>, slots: Vec<(bool, u64)>, select: Vec<u16>) -> Case {
+pub fn case(scans: Vec<Scan>, slots: Vec<(bool, u64)>, select: Vec<u16>) -> Case {
     Case {
         scan_count: scans.len() as u64,
         slot_count: slots.len() as u64,

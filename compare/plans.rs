@@ -1,7 +1,7 @@
-// Writes cases for crates/plans, or the answers to them: plans of every kind, and what 001 makes of them (compare/run says how it
+// Makes cases for crates/plans and the answers to them: plans of every kind, and what 001 makes of them (compare/run says how it
 // is built, with a stand-in for `datom`). The check is read off document 01's table (compare/plan_cases.rs), independently of the Rattle;
 // the cost is 001's own wherever it fits a u64 and 001 does not panic, and is summed in 128 bits to know where that is; `next` is
-// 000's own wherever it is not refused.
+// 000's own wherever it is not refused. What the smaller calls answer is read off 01, and held to 001 and 000 wherever these do not panic.
 #[path = "../target/compare/plan.rs"]
 mod plan;
 #[path = "../target/compare/planner.rs"]
@@ -15,8 +15,9 @@ mod query;
 mod random;
 mod rust_plan;
 
-use held::Held;
-use plan_cases::{case, check, damaged, drawn, e, in_order, numbers, out_out, sound, text, Case, Verdict, SCANS, SELECTS, SLOTS};
+use held::{drive, Pair, PLANS, PLAN_PARTS};
+use plan::EntityValueFlow;
+use plan_cases::{case, check, counts_fault, damaged, drawn, e, in_order, numbers, out_out, sound, text, Case, Scan, Verdict, SCANS};
 use plan_line::index_text;
 use planner::Planner;
 use random::Random;
@@ -24,37 +25,36 @@ use rust_plan::rust_plan;
 
 // 20, then 21 at the lowest such scan.
 fn flows_fault(case: &Case) -> Verdict {
-    if case.slot_count > SLOTS as u64 || case.scan_count > SCANS as u64 || case.select_count > SELECTS as u64 {
-        return Some((20, 0));
-    }
-    for (i, scan) in case.scans.iter().enumerate() {
-        if scan.1 == 0 && scan.0 == 2 {
-            return Some((21, i as u64));
-        }
-    }
-    None
+    counts_fault(case).or(case.scans.iter().position(is_out_out_eavt).map(|i| (21, i as u64)))
 }
 
-// Then 27 at the scan at which, from the last, the cost first passes 2^64 - 1.
-fn cost_fault(case: &Case) -> Verdict {
-    let fault = flows_fault(case);
-    if fault.is_some() {
-        return fault;
-    }
+fn is_out_out_eavt(scan: &Scan) -> bool {
+    scan.1 == 0 && scan.0 == 2
+}
+
+// The cost of scans, or 27 at the scan at which, from the last, it first passes 2^64 - 1.
+fn weight(scans: &[Scan]) -> Result<u64, Verdict> {
     let mut cost: u128 = 1;
-    for i in (0..case.scans.len()).rev() {
-        let (index, flow, entity, attribute, _) = case.scans[i];
-        let earlier: Vec<_> = case.scans[..i].iter().filter(|s| s.0 == index).collect();
+    for i in (0..scans.len()).rev() {
+        let (index, flow, entity, attribute, _) = scans[i];
+        let earlier: Vec<_> = scans[..i].iter().filter(|s| s.0 == index).collect();
         let key = earlier.iter().any(|s| if index == 2 { s.2 == entity } else { s.3 == attribute });
         let penalties = [[5, 10, 20], [10, 50, 60], [1, 90, 100]][index];
         let penalty = penalties[if key { 0 } else if earlier.is_empty() { 2 } else { 1 }];
         let steps = if flow == 0 { 100 } else if flow == 1 && index == 1 { 20 } else { 1 };
         cost = penalty + steps * cost;
         if cost > u64::max_value() as u128 {
-            return Some((27, i as u64));
+            return Err(Some((27, i as u64)));
         }
     }
-    None
+    Ok(cost as u64)
+}
+
+fn cost_text(cost: Result<u64, Verdict>) -> String {
+    match cost {
+        Ok(number) => number.to_string(),
+        Err(fault) => text(fault),
+    }
 }
 
 // 001's check tests a scan's slots against the number of scans: it is held to 01's where no scan names a slot between the two.
@@ -75,23 +75,94 @@ fn agrees_with_001(case: &Case, verdict: Verdict) {
 // What 000's `next` says, and the indexes after it; where that is refused, those that were given.
 fn next_text(case: &Case) -> String {
     if let Some(fault) = flows_fault(case) {
-        let given = (0..SCANS).take_while(|i| (*i as u64) < case.scan_count);
-        let indexes: String = given.map(|i| case.scans.get(i).map_or(0, |s| s.0).to_string()).collect();
-        return format!("{} {}", text(Some(fault)), indexes);
+        return format!("{} {}", text(Some(fault)), indexes(&claimed(case)));
     }
     let mut planner = Planner::damaged(rust_plan(case, &[]));
     let is_new = planner.next();
-    format!("{} {}", if is_new { "yes" } else { "no" }, index_text(planner.get_plan()))
+    format!("{} {}", yes(is_new), index_text(planner.get_plan()))
 }
 
 fn answer(case: &Case) -> String {
     let verdict = check(case);
     agrees_with_001(case, verdict);
-    let cost = match cost_fault(case) {
-        None => rust_plan(case, &[]).cost().to_string(),
-        fault => text(fault),
+    let cost = match flows_fault(case) {
+        None => weight(&case.scans).map(|_| rust_plan(case, &[]).cost()),
+        fault => Err(fault),
     };
-    format!("check {}, cost {}, next {}", text(verdict), cost, next_text(case))
+    format!("check {}, cost {}, next {}", text(verdict), cost_text(cost), next_text(case))
+}
+
+// The scans that a plan's count names: those given and, where it claims more, those that the arrays hold past them.
+fn claimed(case: &Case) -> Vec<Scan> {
+    let mut scans = case.scans.clone();
+    scans.resize(::std::cmp::min(case.scan_count, SCANS as u64) as usize, (0, 0, 0, 0, 0));
+    scans
+}
+
+// The next index of a scan's cycle, and whether it is new. Out-out over eavt, which the calls over a plan refuse, stays.
+fn next_index(scan: &Scan) -> (usize, bool) {
+    let cycle: &[usize] = match (scan.1, scan.0) {
+        (0, 2) => &[2],
+        (0, _) => &[0, 1],
+        (1, 1) => &[1],
+        (1, _) => &[0, 2],
+        _ => &[0, 1, 2],
+    };
+    let at = cycle.iter().position(|i| *i == scan.0).unwrap() + 1;
+    (cycle[at % cycle.len()], at < cycle.len())
+}
+
+fn indexes(scans: &[Scan]) -> String {
+    scans.iter().map(|s| s.0.to_string()).collect()
+}
+
+fn yes(is_new: bool) -> &'static str {
+    if is_new { "yes" } else { "no" }
+}
+
+// A scan by itself, held to 001 and 000 where it is not out-out over eavt.
+fn scan_text(scan: &Scan) -> String {
+    let slots = in_order(scan);
+    let flow = match (scan.1, scan.0) {
+        (0, _) => "out-out",
+        (1, 1) => "out-in",
+        (1, _) => "in-out",
+        _ => "in-in",
+    };
+    let (index, is_new) = next_index(scan);
+    if !is_out_out_eavt(scan) {
+        let rust = rust_plan(&case(vec![*scan], vec![], vec![]), &[]);
+        let by_001 = match rust.scans[0].entity_value_flow() {
+            EntityValueFlow::OutOut => "out-out",
+            EntityValueFlow::InOut => "in-out",
+            EntityValueFlow::OutIn => "out-in",
+            EntityValueFlow::InIn => "in-in",
+        };
+        assert_eq!((rust.scans[0].slots()[0].0 as usize, rust.scans[0].slots()[1].0 as usize, by_001), (slots[0], slots[1], flow));
+        let mut planner = Planner::damaged(rust);
+        assert_eq!((planner.next(), index_text(planner.get_plan())), (is_new, index.to_string()));
+    }
+    let eavt = if is_out_out_eavt(scan) { " over eavt" } else { "" };
+    let next = format!("scan {} {} {} {} {}", index, scan.1, scan.2, scan.3, scan.4);
+    format!("; slots {} {} {}{} next {} {}", slots[0], slots[1], flow, eavt, yes(is_new), next)
+}
+
+// What the smaller calls answer.
+fn parts(case: &Case) -> String {
+    let mut scans = claimed(case);
+    let each: String = scans.iter().map(scan_text).collect();
+    let cost = cost_text(weight(&scans));
+    let mut is_new = false;
+    for scan in &mut scans {
+        let next = next_index(scan);
+        scan.0 = next.0;
+        is_new = next.1;
+        if is_new {
+            break;
+        }
+    }
+    let (counts, flows) = (text(counts_fault(case)), text(flows_fault(case)));
+    format!("counts {}, flows {}, cost {}, next {} {}{}", counts, flows, cost, yes(is_new), indexes(&scans), each)
 }
 
 // Scans from letters: an index (a, v, e), in capitals for a key not used before; a flow (o, i, t: out-out, in-out, in-in).
@@ -163,18 +234,17 @@ fn cases() -> Vec<Case> {
     all
 }
 
+// The calls over the plan, and the smaller ones.
+fn pair(case: &Case) -> Pair {
+    let cases = held::case(PLANS, &numbers(case)) + &held::case(PLAN_PARTS, &numbers(case));
+    (cases, format!("{}\n{}\n", answer(case), parts(case)))
+}
+
 fn main() {
     std::panic::set_hook(Box::new(|_| {}));
-    if let Some((mut random, count)) = held::asked() {
-        let mut held = Held::new("plans");
+    drive("plans", &|| cases().iter().map(pair).collect(), &|held, random, count| {
         for _ in 0..count {
-            let case = drawn(&mut random);
-            held.add(numbers(&case) + "\n", answer(&case) + "\n");
+            held.add(pair(&drawn(random)));
         }
-        return held.end(count);
-    }
-    let answers = std::env::args().nth(1) == Some("answers".to_string());
-    for case in &cases() {
-        println!("{}", if answers { answer(case) } else { numbers(case) });
-    }
+    });
 }

@@ -1,4 +1,4 @@
-// Writes cases for crates/queries, or the answers to them: queries of every kind, and what 000 makes of them (compare/run says how it
+// Makes cases for crates/queries and the answers to them: queries of every kind, and what 000 makes of them (compare/run says how it
 // is built, with stand-ins). What is refused is read off document 01's table, independently of the Rattle; every other query is
 // planned by 000 itself, which also lists its plans and weighs them.
 #[path = "../target/compare/plan.rs"]
@@ -8,16 +8,18 @@ mod planner;
 
 mod datom;
 mod held;
+mod plan_cases;
 mod plan_line;
 mod query;
 mod query_cases;
 mod random;
 
-use held::Held;
+use held::{drive, Pair, QUERIES, QUERY_CHECKS};
 use plan::Plan;
 use plan_line::{index_text, plan_text};
 use planner::Planner;
-use query_cases::{case, chain, numbers, refusal, Case};
+use plan_cases::text;
+use query_cases::{case, chain, numbers, query_refusal, refusal, Case};
 use random::Random;
 
 // The plans of a query are listed up to this many.
@@ -95,19 +97,18 @@ fn plans_of(answer: &str) -> usize {
     plans.split_whitespace().count() / 2
 }
 
+// The query planned, and the check of it alone.
+fn pair(case: &Case) -> Pair {
+    let cases = held::case(QUERIES, &numbers(case)) + &held::case(QUERY_CHECKS, &numbers(case));
+    (cases, format!("{}\nquery {}\n", answer(case), text(query_refusal(case))))
+}
+
 fn main() {
-    if let Some((mut random, count)) = held::asked() {
-        let mut held = Held::new("queries");
+    drive("queries", &|| all_cases().iter().map(pair).collect(), &|held, random, count| {
         for _ in 0..count {
-            let case = if random.below(3) == 0 { query_cases::dense(&mut random) } else { query_cases::drawn(&mut random) };
-            let answer = answer(&case);
-            held.count("plans listed", plans_of(&answer));
-            held.add(numbers(&case) + "\n", answer + "\n");
+            let pair = pair(&if random.below(3) == 0 { query_cases::dense(random) } else { query_cases::drawn(random) });
+            held.count("plans listed", plans_of(&pair.1));
+            held.add(pair);
         }
-        return held.end(count);
-    }
-    let answers = std::env::args().nth(1) == Some("answers".to_string());
-    for case in &all_cases() {
-        println!("{}", if answers { answer(case) } else { numbers(case) });
-    }
+    });
 }

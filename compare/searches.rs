@@ -1,4 +1,4 @@
-// Writes cases for crates/searches, or the answers to them: queries of every kind, and the first plan of least cost over every sound
+// Makes cases for crates/searches and the answers to them: queries of every kind, and the first plan of least cost over every sound
 // order, by 005's swaps, 000's plans and 001's costs (compare/run says how it is built, with stand-ins). What is refused is read
 // off document 01's table, independently of the Rattle.
 #[path = "../target/compare/permutation.rs"]
@@ -15,7 +15,7 @@ mod query;
 mod query_cases;
 mod random;
 
-use held::Held;
+use held::{drive, Pair, SEARCHES};
 use permutation::Permutations;
 use plan_line::plan_text;
 use planner::Planner;
@@ -108,19 +108,16 @@ fn bound_twice_case(source: &mut Random) -> Case {
     c
 }
 
+fn pair(case: &Case) -> Pair {
+    (held::case(SEARCHES, &numbers(case)), answer(case) + "\n")
+}
+
 fn main() {
-    if let Some((mut random, count)) = held::asked() {
-        let mut held = Held::new("searches");
+    drive("searches", &|| all_cases().iter().map(pair).collect(), &|held, random, count| {
         for i in 0..count {
-            let case = if i % 5 == 0 { bound_twice_case(&mut random) } else { query_cases::drawn(&mut random) };
-            let answer = answer(&case);
-            held.count("found", answer.starts_with("found") as usize);
-            held.add(numbers(&case) + "\n", answer + "\n");
+            let pair = pair(&if i % 5 == 0 { bound_twice_case(random) } else { query_cases::drawn(random) });
+            held.count("found", pair.1.starts_with("found") as usize);
+            held.add(pair);
         }
-        return held.end(count);
-    }
-    let answers = std::env::args().nth(1) == Some("answers".to_string());
-    for case in &all_cases() {
-        println!("{}", if answers { answer(case) } else { numbers(case) });
-    }
+    });
 }

@@ -1,12 +1,12 @@
-// Writes cases for crates/swaps, or the answers to them, by the Rust of 005 (compare/run says how it is built). 005 has no capacity:
-// the two refusals are 01's, 40 at 0 for more than 48 elements.
+// Makes cases for crates/swaps and the answers to them, by the Rust of 005 (compare/run says how it is built). 005 has no capacity: the
+// two refusals are 01's, 40 at 0 for more than 48 elements.
 #[path = "../target/compare/permutation.rs"]
 mod permutation;
 
 mod held;
 mod random;
 
-use held::Held;
+use held::{drive, Pair, SWAPS};
 use permutation::Permutations;
 use random::Random;
 
@@ -20,10 +20,10 @@ enum Case {
 
 fn numbers(case: &Case) -> String {
     match case {
-        &Case::Listing(n, steps) => format!("0 {} {}\n", n, steps),
+        &Case::Listing(n, steps) => format!("0 {} {}", n, steps),
         &Case::State(ref ks, n, i) => {
             let counters: String = ks.iter().map(|k| format!(" {}", k)).collect();
-            format!("1 {} {}{}\n", n, i, counters)
+            format!("1 {} {}{}", n, i, counters)
         }
     }
 }
@@ -135,17 +135,14 @@ fn drawn(random: &mut Random) -> Case {
     Case::State(ks, n, i)
 }
 
+fn pair(case: &Case) -> Pair {
+    (held::case(SWAPS, &numbers(case)), answer(case))
+}
+
 fn main() {
-    if let Some((mut random, count)) = held::asked() {
-        let mut held = Held::new("swaps");
+    drive("swaps", &|| cases().iter().map(pair).collect(), &|held, random, count| {
         for _ in 0..count {
-            let case = drawn(&mut random);
-            held.add(numbers(&case), answer(&case));
+            held.add(pair(&drawn(random)));
         }
-        return held.end(count);
-    }
-    let answers = std::env::args().nth(1) == Some("answers".to_string());
-    for case in &cases() {
-        print!("{}", if answers { answer(case) } else { numbers(case) });
-    }
+    });
 }

@@ -1,5 +1,5 @@
-// Writes cases for crates/texts, or the answers to them: the text of plans with their names, to buffers of several lengths, and the name
-// of a select. The answers are read off document 01 here, independently of the Rattle; wherever all names are UTF-8 the text and the
+// Makes cases for crates/texts and the answers to them: the text of plans with their names, to buffers of several lengths, and names of
+// selects and slots. The answers are read off document 01 here, independently of the Rattle; wherever all names are UTF-8 the text and the
 // name are held to 001's own `Debug` and `get_select_name` (compare/run says how it is built, with a stand-in for `datom`).
 #[path = "../target/compare/plan.rs"]
 mod plan;
@@ -10,7 +10,7 @@ mod plan_cases;
 mod random;
 mod rust_plan;
 
-use held::Held;
+use held::{drive, Pair, TEXTS};
 use plan_cases::{case, check, damaged, e, in_order, numbers, sound, text, Case, Verdict};
 use random::Random;
 use rust_plan::rust_plan;
@@ -143,7 +143,26 @@ fn answer(asked: &Asked) -> String {
         }
         out += &format!("text {}, length {}{}", text(fault), length, shown(&buffer));
     }
+    for slot in slots_asked(asked) {
+        let is_constant = asked.case.slots.get(slot).map_or(false, |s| s.0 && (slot as u64) < asked.case.slot_count);
+        let kind = if is_constant { "constant" } else { "variable" };
+        out += &format!("slot {}, {}{}", text(check_names(asked)), kind, shown(&some_name(asked, slot)));
+    }
     out
+}
+
+// The first slot, the last, and one that is none.
+fn slots_asked(asked: &Asked) -> Vec<usize> {
+    let n = asked.case.slots.len();
+    if n == 0 { vec![0] } else { vec![0, n - 1, n] }
+}
+
+// The name of a slot, or, where ends are wrong, as much of it as there is.
+fn some_name(asked: &Asked, slot: usize) -> Vec<u8> {
+    let end_of = |k: usize| asked.ends.get(k).cloned().unwrap_or(0);
+    let start = if slot == 0 { 0 } else { end_of(slot - 1) };
+    let length = end_of(slot).saturating_sub(start);
+    asked.names.iter().enumerate().filter(|&(i, _)| start <= i as u64 && (i as u64) - start < length).map(|(_, b)| *b).collect()
 }
 
 fn asked_numbers(asked: &Asked) -> String {
@@ -154,8 +173,11 @@ fn asked_numbers(asked: &Asked) -> String {
     out.push(asked.select);
     out.push(asked.rooms.len() as u64);
     out.extend(asked.rooms.iter().map(|r| *r as u64));
+    let slots = slots_asked(asked);
+    out.push(slots.len() as u64);
+    out.extend(slots.iter().map(|k| *k as u64));
     let shown: Vec<String> = out.iter().map(|n| n.to_string()).collect();
-    format!("{} {}\n", numbers(&asked.case), shown.join(" "))
+    format!("{} {}", numbers(&asked.case), shown.join(" "))
 }
 
 // A plan with a name for each slot, tried with the buffer that it just fits.
@@ -285,18 +307,15 @@ fn cases() -> Vec<Asked> {
     all
 }
 
+fn pair(asked: &Asked) -> Pair {
+    (held::case(TEXTS, &asked_numbers(asked)), answer(asked))
+}
+
 fn main() {
-    if let Some((mut random, count)) = held::asked() {
-        let mut held = Held::new("texts");
+    drive("texts", &|| cases().iter().map(pair).collect(), &|held, random, count| {
         for _ in 0..count {
-            let case = plan_cases::drawn(&mut random);
-            let asked = named(&mut random, case);
-            held.add(asked_numbers(&asked), answer(&asked));
+            let case = plan_cases::drawn(random);
+            held.add(pair(&named(random, case)));
         }
-        return held.end(count);
-    }
-    let answers = std::env::args().nth(1) == Some("answers".to_string());
-    for asked in &cases() {
-        print!("{}", if answers { answer(asked) } else { asked_numbers(asked) });
-    }
+    });
 }

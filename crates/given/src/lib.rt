@@ -1,4 +1,4 @@
-// Queries, plans and tables given as decimal numbers, for test programs.
+// Queries, plans and tables given as decimal numbers, for the cases of `replay` and for the benchmarks.
 //
 // A query: its counts of variables, statements and selects; a statement is four numbers (entity, attribute, 1 for a constant, its
 // value), a select one.

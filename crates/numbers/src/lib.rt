@@ -1,4 +1,4 @@
-// Decimal numbers in a text, for test programs that take their cases as numbers: what is no digit parts them.
+// Decimal numbers in a text, for the cases of `replay` and for the benchmarks: what is no digit parts them.
 ghost use Prim.Native.Nat.{_≤_};
 
 // A number that was read, and where to read on.

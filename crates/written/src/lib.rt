@@ -1,4 +1,4 @@
-// For test programs: plans and refusals written as a line.
+// For the cases of `replay`: numbers, refusals and plans written to standard output.
 use capacity::MAX_SCANS;
 use capacity::MAX_SELECTS;
 use capacity::MAX_SLOTS;
@@ -10,6 +10,7 @@ use plan::Scan;
 use plan::Slot;
 use plan::SlotDefinition;
 use refusal::Refusal;
+use refusal::Verdict;
 
 pub fn put(text: &[u8]) {
     io::write_all(STDOUT_FILENO, text);
@@ -19,7 +20,35 @@ pub fn put_number(value: u64) {
     io::print_decimal(STDOUT_FILENO, value);
 }
 
-pub fn index_number(index: Index) -> u64 {
+// A number, with a space before it.
+pub fn put_after(value: u64) {
+    put(b" ");
+    put_number(value);
+}
+
+pub fn put_words(words: &[u64]) {
+    let mut i: usize = 0;
+    while i < words.len() {
+        put_after(words[i]);
+        i += 1;
+    }
+}
+
+pub fn put_refusal(r: Refusal) {
+    put(b"refused");
+    put_after(r.number as u64);
+    put(b" at");
+    put_after(r.place as u64);
+}
+
+pub fn put_verdict(verdict: Verdict) {
+    match verdict {
+        Verdict::Fine => put(b"fine"),
+        Verdict::Refused(r) => put_refusal(r),
+    }
+}
+
+fn index_number(index: Index) -> u64 {
     match index {
         Index::Aevt => 0,
         Index::Avet => 1,
@@ -35,28 +64,23 @@ fn flow_number(flow: Flow) -> u64 {
     }
 }
 
-fn put_scan(scan: Scan) {
+pub fn put_scan(scan: Scan) {
     let index = scan.index;
     let flow = scan.flow;
-    put(b"scan ");
-    put_number(index_number(index));
-    put(b" ");
-    put_number(flow_number(flow));
-    put(b" ");
-    put_number(scan.entity.0 as u64);
-    put(b" ");
-    put_number(scan.attribute.0);
-    put(b" ");
-    put_number(scan.value.0 as u64);
-    put(b", ");
+    put(b"scan");
+    put_after(index_number(index));
+    put_after(flow_number(flow));
+    put_after(scan.entity.0 as u64);
+    put_after(scan.attribute.0);
+    put_after(scan.value.0 as u64);
 }
 
 fn put_slot(definition: SlotDefinition) {
     match definition {
         SlotDefinition::Variable => put(b"variable, "),
         SlotDefinition::Constant(value) => {
-            put(b"constant ");
-            put_number(value);
+            put(b"constant");
+            put_after(value);
             put(b", ");
         }
     }
@@ -67,6 +91,7 @@ fn put_scans(scans: [Scan; MAX_SCANS], count: usize) {
         if i < count {
             let scan = scans[i];
             put_scan(scan);
+            put(b", ");
         }
     }
 }
@@ -87,9 +112,9 @@ fn put_selects(select: [Slot; MAX_SELECTS], count: usize) {
             if 0 < i {
                 put(b", ");
             }
-            put(b"select ");
+            put(b"select");
             let slot = select[i];
-            put_number(slot.0 as u64);
+            put_after(slot.0 as u64);
         }
     }
 }
@@ -112,11 +137,4 @@ pub fn put_indexes(scans: [Scan; MAX_SCANS], count: usize) {
             put_number(index_number(index));
         }
     }
-}
-
-pub fn put_refusal(r: Refusal) {
-    put(b"refused ");
-    put_number(r.number as u64);
-    put(b" at ");
-    put_number(r.place as u64);
 }

@@ -8,10 +8,10 @@ use Rattle.swaps.proofs.put_order.Statement.{statement}
 use Rattle.swaps.proofs.put_order.Tie as tie
 
 abbrev Inv-loop : tie.InvT-loop
-Inv-loop n order j₀ j = (j ≤ maxElements) × (length order ≡ maxElements)
+Inv-loop n order j₀ t2 j = (j ≤ maxElements) × (length order ≡ maxElements)
 
 abbrev μ-loop : tie.MeasureT-loop
-μ-loop n order j₀ j = maxElements - j
+μ-loop n order j₀ t2 j = maxElements - j
 
 pub put-order-spec : {M : Type 1} → statement M
 put-order-spec =
@@ -23,8 +23,8 @@ put-order-spec =
     (λ c κs. search needs)
     (λ c. search needs)
     (λ c. search needs)
-    (λ c. search needs)
     (λ c κs. search needs)
+    (λ c. search needs)
     (λ c. search needs)
     (λ c. search needs)
     (λ c. search needs)

@@ -8,10 +8,10 @@ use Rattle.written.proofs.put_scans.Statement.{statement}
 use Rattle.written.proofs.put_scans.Tie as tie
 
 abbrev Inv-loop : tie.InvT-loop
-Inv-loop count scans i₀ i = (i ≤ maxScans) × (length scans ≡ maxScans)
+Inv-loop count scans i₀ t5 i = (i ≤ maxScans) × (length scans ≡ maxScans)
 
 abbrev μ-loop : tie.MeasureT-loop
-μ-loop count scans i₀ i = maxScans - i
+μ-loop count scans i₀ t5 i = maxScans - i
 
 pub put-scans-spec : {M : Type 1} → statement M
 put-scans-spec =
@@ -21,6 +21,8 @@ put-scans-spec =
     μ-loop
     (λ c. search needs)
     (λ c. search needs)
+    (λ c. search needs)
+    (λ c κs. search needs)
     (λ c. search needs)
     (λ c κs. search needs)
     (λ c. search needs)

@@ -1,0 +1,122 @@
+// Cases of `replay`: a query (crate `given`). Written is the refusal, or the plan, the plans listed from it with their costs, and the
+// indexes that stand again after the last. Or what the check of the query alone says. compare/queries.rs makes cases and answers.
+use plan::Plan;
+use planner::Planned;
+use query::Query;
+use refusal::Refusal;
+use refusal::Verdict;
+use written::put;
+use written::put_after;
+use written::put_indexes;
+
+// How many plans are listed at the most, and up to how many scans the cost is asked.
+const LISTED: usize = 500;
+
+const WEIGHED: usize = 9;
+
+// The query that begins at a place. Returns where to read on.
+pub fn put_case(text: &[u8], start: usize) -> usize {
+    let reading = given::read_query(text, start);
+    let query = reading.query;
+    put_answer(query);
+    reading.next
+}
+
+// The query that begins at a place, checked. Returns where to read on.
+pub fn put_check(text: &[u8], start: usize) -> usize {
+    let reading = given::read_query(text, start);
+    let query = reading.query;
+    put(b"query ");
+    written::put_verdict(query_check::check_query(query));
+    put(b"\n");
+    reading.next
+}
+
+fn put_listed(plan: Plan) {
+    let scans = plan.scans;
+    put(b" ");
+    put_indexes(scans, plan.scan_count);
+    if plan.scan_count <= WEIGHED {
+        let costed = cost::cost(plan);
+        put_after(costed.cost);
+    } else {
+        put(b" left out");
+    }
+}
+
+// The plans listed from a plan on, and what stands again after the last.
+fn put_listing(start: Plan) {
+    let mut plan = start;
+    let mut listed: usize = 0;
+    while listed < LISTED {
+        put_listed(plan);
+        let next = listing::next(plan);
+        plan = next.plan;
+        listed += 1;
+        if !next.is_new {
+            put_again(plan);
+            return;
+        }
+    }
+    put_cut();
+}
+
+fn put_cut() {
+    put(b" ..");
+}
+
+fn put_again(plan: Plan) {
+    let scans = plan.scans;
+    put(b" again ");
+    put_indexes(scans, plan.scan_count);
+}
+
+// The plan: over lent slices where a query has one select and one or two statements, or one too many; else by value.
+fn planned_of(query: Query) -> Planned {
+    let statements = query.where_statements;
+    let select = query.select;
+    let n = query.variable_count;
+    let items = statements.items;
+    let chosen = select.items;
+    let v = chosen[0];
+    let x = items[0];
+    let y = items[1];
+    if select.count == 1 {
+        if statements.count == 1 {
+            return lent::plan_one(n, [x], [v]);
+        }
+        if statements.count == 2 {
+            return lent::plan_pair(n, [x, y], [v]);
+        }
+        if statements.count == lent::ONE_TOO_MANY {
+            return lent::plan_too_many(n, [x; lent::ONE_TOO_MANY], [v]);
+        }
+    }
+    if select.count == 0 {
+        if statements.count == 1 {
+            return lent::plan_no_select(n, [x], []);
+        }
+    }
+    planner::plan(query)
+}
+
+// A refusal comes with the plan of nothing, of which there is nothing to write.
+fn put_refused(r: Refusal, plan: Plan) {
+    written::put_refusal(r);
+    written::put_plan(plan);
+}
+
+fn put_answer(query: Query) {
+    let planned = planned_of(query);
+    let verdict = planned.verdict;
+    let plan = planned.plan;
+    match verdict {
+        Verdict::Refused(r) => put_refused(r, plan),
+        Verdict::Fine => {
+            written::put_plan(plan);
+            put(b"; plans");
+            put_listing(plan);
+        }
+    }
+    put(b"\n");
+}
