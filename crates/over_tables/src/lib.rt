@@ -145,6 +145,6 @@ fn put_range(table: &[u64], inputs: usize, first: u64, second: u64, third: u64) 
     } else {
         put(b", no row:");
     }
-    written::put_words(tables::range(table, inputs, first, second, third));
+    written::put_words(tables::range(table, low, inputs, first, second, third));
     put(b"\n");
 }
