@@ -94,6 +94,6 @@ range-past t ks i h = record {
 pub range-upto : (t ks : List ℕ) (i to : ℕ) → i < count t → Bound t i ks true to → Range t i ks (take (words * to - words * i) (drop (words * i) t))
 range-upto t ks i to h b =
     let n : length (take (words * to - words * i) (drop (words * i) t)) ≡ words * to - words * i =
-        length-take-le _ (drop (words * i) t) (simp length-drop (omega (arith, b .at-most))) in
+    length-take-le _ (drop (words * i) t) (simp length-drop (omega (arith, b .at-most))) in
     let e : i + (words * to - words * i) / words ≡ to = omega (arith, b .at-least) in
     record { part = rw n refl; whole = rw n (omega (arith, b .at-least)); ends = rw (n, e) b }
