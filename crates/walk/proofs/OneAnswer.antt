@@ -6,7 +6,7 @@ use mathlib.Core.List.{List}
 use Prim.Native.Nat.{ℕ, suc}
 use Rattle.plan.specs.declared.Scan.{Scan}
 use Rattle.visits.specs.Visits.{Tables}
-use Rattle.visits.proofs.Pending.{current}
+use Rattle.visits.specs.Pending.{current}
 use Rattle.walk.specs.Steps.{Stepped}
 
 module _ (ts : Tables) (ss : List Scan) (initial iters : List ℕ) (i : ℕ) (a b x y : List ℕ) where
