@@ -1,5 +1,5 @@
 /* Which heater has its level switch bridged? Plans the question, prints the plan's text and cost, and evaluates it, a row at a
-   time. Attribute 1: a heater's level switch. Attribute 2: a switch's state, 9 is bridged. */
+   time; then lists the orders in which the heaters may be tried. Attribute 1: a heater's level switch. Attribute 2: a switch's state, 9 is bridged. */
 #include "loader.h"
 #include <stdio.h>
 
@@ -30,12 +30,13 @@ int main(void)
     };
     static struct loader_plan plan;
     static struct loader_answer answer;
+    static struct loader_swaps swaps;
     static uint64_t order[LOADER_MAX_SEARCHED];
     static uint8_t text[1024];
     static const uint8_t names[] = "heaterswitch";
     static const uint64_t ends[] = { 6, 12, 12 }; /* a slot for each variable and each constant: the constant's name is not read */
     const uint8_t *name;
-    uint64_t rows[1], from = 0;
+    uint64_t rows[1], from = 0, heaters[] = { 10, 11, 12 }, swap[2], heater;
     int length;
 
     if (loader_search(&query, order, &plan, &answer) != 0)
@@ -59,6 +60,17 @@ int main(void)
         from += answer.first;
     } while (answer.second == 1);
 
+    if (loader_permutations(WORDS(heaters), &swaps, &answer) != 0)
+        return refused("permutations", &answer);
+    do {
+        printf("try %llu %llu %llu\n", (unsigned long long)heaters[0], (unsigned long long)heaters[1], (unsigned long long)heaters[2]);
+        if (loader_next_swap(&swaps, swap, &answer) != 0)
+            return refused("next_swap", &answer);
+        heater = heaters[swap[0]];
+        heaters[swap[0]] = heaters[swap[1]];
+        heaters[swap[1]] = heater;
+    } while (answer.first == 1);
+
     /* What is wrong is refused with a number, and the plan stays as it was. */
     query.statements[1].entity = 7;
     if (loader_plan(&query, &plan, &answer) != 0)
@@ -66,5 +78,7 @@ int main(void)
     plan.scans[1].flow = 3;
     if (loader_cost(&plan, &answer) != 0)
         refused("cost", &answer);
+    if (loader_permutations(LOADER_MAX_ELEMENTS + 1, &swaps, &answer) != 0)
+        refused("permutations", &answer);
     return 0;
 }

@@ -15,7 +15,7 @@
 
    Stack: no call takes more than LOADER_STACK bytes (loader/run measures it).
 
-   A refused call writes its answer, and nothing else: plan, order, rows and text stay as they were. */
+   A refused call writes its answer, and nothing else: plan, order, rows, text, swap and swap state stay as they were. */
 #ifndef LOADER_H
 #define LOADER_H
 #include <stddef.h>
@@ -32,12 +32,13 @@ enum {
     LOADER_MAX_SCANS = 48,
     LOADER_MAX_SLOTS = 96,
     LOADER_MAX_SELECTS = 32,
-    LOADER_MAX_SEARCHED = 6
+    LOADER_MAX_SEARCHED = 6,
+    LOADER_MAX_ELEMENTS = 48
 };
 
 /* Why a call is refused. The order in which the numbers are tried is document 01's: planning 10 to 16 ascending; search 10 to 15, 17,
    18; plan check 20, 13, then scan by scan 21 to 24, then 25, 26; cost and next 20, 21, cost then 27; evaluation the plan check, 28, 1,
-   2, 3; text the plan check, 30, 31; a select's name the plan check, 30, 26, 29. Within a number the lowest place is given. */
+   2, 3; text the plan check, 30, 31; a select's name the plan check, 30, 26, 29; swaps 40. Within a number the lowest place is given. */
 enum loader_refusal {
     LOADER_FINE = 0,                  /* not refused */
     LOADER_TABLE_LENGTH = 1,          /* a table's length is no multiple of 3, or lengths differ; place 0 */
@@ -63,7 +64,8 @@ enum loader_refusal {
     LOADER_NO_SCANS = 28,             /* evaluation of no scans; place 0 */
     LOADER_CONSTANT_SELECTED = 29,    /* the name is asked of a selected constant; place: select */
     LOADER_NAME_ENDS = 30,            /* name ends fall, pass the name bytes, or aren't one per slot; place 0 */
-    LOADER_TEXT_TOO_SHORT = 31        /* text buffer too short for the whole text; place 0 */
+    LOADER_TEXT_TOO_SHORT = 31,       /* text buffer too short for the whole text; place 0 */
+    LOADER_TOO_MANY_ELEMENTS = 40     /* a swap state of over 48 elements, given or asked for; place 0 */
 };
 
 /* What a call answers, besides what it returns. A call writes all four words. */
@@ -119,11 +121,19 @@ struct loader_plan {
     uint64_t select[LOADER_MAX_SELECTS]; /* slots */
 };
 
+/* A swap state: its steps list every order of the elements. Any words are one; of over 48 elements it is refused, 40. */
+struct loader_swaps {
+    uint64_t element_count;
+    uint64_t position; /* where the next step looks first */
+    uint64_t counters[LOADER_MAX_ELEMENTS];
+};
+
 /* The calls read and write these structs as arrays of u64. */
 #if defined __STDC_VERSION__ && __STDC_VERSION__ >= 201112L
 _Static_assert(sizeof(struct loader_answer) == 4 * sizeof(uint64_t), "an answer is 4 words");
 _Static_assert(sizeof(struct loader_query) == 227 * sizeof(uint64_t), "a query is 227 words");
 _Static_assert(sizeof(struct loader_plan) == 467 * sizeof(uint64_t), "a plan is 467 words");
+_Static_assert(sizeof(struct loader_swaps) == 50 * sizeof(uint64_t), "a swap state is 50 words");
 _Static_assert(sizeof(size_t) == sizeof(uint64_t), "a length is a word");
 #endif
 
@@ -165,6 +175,13 @@ uint64_t loader_text(const struct loader_plan *plan, const uint8_t *names, size_
    before `names + ends[plan->select[index]]`. Refusals: those of the plan check, 30, 26, 29. */
 uint64_t loader_select_name(const struct loader_plan *plan, const uint8_t *names, size_t names_length, const uint64_t *ends, size_t ends_length,
                             size_t index, struct loader_answer *answer);
+
+/* The swap state at the start, for so many elements. Refusal 40. */
+uint64_t loader_permutations(size_t element_count, struct loader_swaps *state, struct loader_answer *answer);
+
+/* The next swap: the two positions to swap. `first` is 1 where there is one; 0 where every order was seen, and then for ever, with
+   positions 0 and 0. The order before any swap and those after each are all orders of the elements, each once. Refusal 40. */
+uint64_t loader_next_swap(struct loader_swaps *state, uint64_t swap[2], struct loader_answer *answer);
 
 #ifdef __cplusplus
 }

@@ -19,18 +19,18 @@ use Rattle.query.specs.declared.Statement.{Statement}
 use Rattle.query.specs.declared.Statements.{Statements}
 use Rattle.query.specs.declared.Selects.{Selects}
 use Rattle.query.specs.declared.Query.{Query}
-use Rattle.query.specs.Query.{zeroVar, zeroStatement}
+use Rattle.query.specs.Query.{largest, zeroVar, zeroStatement}
 use Rattle.asked.specs.declared.Parts.{Parts}
 use Rattle.asked.specs.Parts.{partsOf, itemsOf, areBytes}
 use Rattle.asked.specs.Asked.{varOf, valueOf, statementOf, statementsOf, selectsOf, queryOf, bytesFit, bytesAfter, endOf, endsCount}
 
-pub var-past : (n : ℕ) → 65535 < n → record { 0 = 65535 } ≡ varOf n
+pub var-past : (n : ℕ) → largest < n → record { 0 = largest } ≡ varOf n
 unfolding varOf
-var-past n h = let e : 65535 ≡ min n 65535 = omega arith in ap (λ (k : ℕ). record { 0 = k }) e
+var-past n h = let e : largest ≡ min n largest = omega arith in ap (λ (k : ℕ). record { 0 = k }) e
 
-pub var-below : (n : ℕ) → n ≤ 65535 → record { 0 = n } ≡ varOf n
+pub var-below : (n : ℕ) → n ≤ largest → record { 0 = n } ≡ varOf n
 unfolding varOf
-var-below n h = let e : n ≡ min n 65535 = omega arith in ap (λ (k : ℕ). record { 0 = k }) e
+var-below n h = let e : n ≡ min n largest = omega arith in ap (λ (k : ℕ). record { 0 = k }) e
 
 pub value-variable : (k v : ℕ) (x : Var) → k ≡ 0 → x ≡ varOf v → Variable x ≡ valueOf k v
 unfolding valueOf

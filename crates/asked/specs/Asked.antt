@@ -14,12 +14,12 @@ use Rattle.query.specs.declared.Statement.{Statement}
 use Rattle.query.specs.declared.Statements.{Statements}
 use Rattle.query.specs.declared.Selects.{Selects}
 use Rattle.query.specs.declared.Query.{Query}
-use Rattle.query.specs.Query.{zeroVar, zeroStatement}
+use Rattle.query.specs.Query.{largest, zeroVar, zeroStatement}
 use Rattle.asked.specs.Parts.{partsOf, itemsOf, areBytes}
 
--- a variable's number; one past 2^16 - 1 is taken for that
+-- a variable's number
 unfoldable pub varOf : ℕ → Var
-varOf n = record { 0 = min n 65535 }
+varOf n = record { 0 = min n largest }
 
 -- kind 0 is a variable, the other a constant
 unfoldable pub valueOf : ℕ → ℕ → QueryValue

@@ -4,6 +4,7 @@ use capacity::MAX_SELECTS;
 use capacity::MAX_SLOTS;
 use capacity::MAX_STATEMENTS;
 use datom::Aid;
+use query::LARGEST;
 use query::Query;
 use query::QueryValue;
 use query::Selects;
@@ -64,9 +65,6 @@ const VARIABLE: u64 = 0;
 const CONSTANT: u64 = 1;
 
 const LAST_BYTE: u64 = 255;
-
-// The largest number of a variable: a larger one is taken for it. Neither is below a count of variables that planning accepts.
-const LAST_VARIABLE: u64 = 65535;
 
 // An end for each slot that a plan can have, and one more, so that too many are seen.
 pub const MAX_ENDS: usize = MAX_SLOTS + 1;
@@ -273,8 +271,8 @@ fn value_of(kind: u64, value: u64) -> QueryValue
 fn variable(number: u64) -> Var
     ensures { λ r. ⌜ r ≡ varOf number ⌝ }
 {
-    if LAST_VARIABLE < number {
-        return Var(LAST_VARIABLE as u16);
+    if LARGEST < number {
+        return Var(LARGEST as u16);
     }
     Var(number as u16)
 }

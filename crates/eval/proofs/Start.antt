@@ -10,8 +10,9 @@ use Rattle.tables.specs.Rows.{count}
 use Rattle.plan.specs.declared.Scan.{Scan}
 use Rattle.plan.specs.Plan.{zeroScan}
 use Rattle.visits.specs.Visits.{Tables, tableOf, visited, visits, slotsAt}
-use Rattle.visits.proofs.Slots.{Agree}
-use Rattle.visits.proofs.Pending.{iterWords, position, ending, current, currentSlots, pending-started}
+use Rattle.visits.specs.Sound.{Agree}
+use Rattle.visits.specs.Pending.{iterWords, position, ending, current, currentSlots}
+use Rattle.visits.proofs.Pending.{pending-started}
 use Rattle.walk.specs.Steps.{Ascend, keyOf, Found, Ready}
 use Rattle.rows.specs.Next.{innermost, remaining}
 

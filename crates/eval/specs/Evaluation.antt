@@ -18,7 +18,7 @@ use Rattle.plan_check.specs.Promised.{Promised}
 use Rattle.tables.specs.Check.{tablesFault}
 use Rattle.visits.specs.Visits.{Tables, valueOf, rowList}
 use Rattle.visits.specs.Window.{window, follows, filled}
-use Rattle.visits.proofs.Pending.{iterWords}
+use Rattle.visits.specs.Pending.{iterWords}
 use Rattle.walk.specs.Words.{scanWords}
 use Rattle.walk.specs.Steps.{Ascend}
 use Rattle.rows.specs.Next.{Shows}

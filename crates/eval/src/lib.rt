@@ -29,7 +29,7 @@ ghost use lib.ListN.{length, take, drop, replicate};
 ghost use Rattle.capacity.specs.Capacity.{maxScans, maxSlots, maxSelects};
 ghost use Rattle.plan.specs.Plan.{inOrder};
 ghost use Rattle.visits.specs.Visits.{inputs, valueOf, visits};
-ghost use Rattle.visits.proofs.Pending.{iterWords};
+ghost use Rattle.visits.specs.Pending.{iterWords};
 ghost use Rattle.walk.specs.Words.{scanWords, indexNumber, wordsOf, scansIn, Laid};
 ghost use Rattle.walk.specs.Steps.{tablesOf, Ascend};
 ghost use Rattle.eval.specs.Evaluation.{valuesOf, numbersOf, Evaluable, Roomy, ShowsRows, evaluateOf, bufferAfter};

@@ -8,6 +8,7 @@ use native.Mathlib.Nat.{not-suc-le-zero, le-of-suc-le-suc}
 use borrow.Author.Tests.{eqb-false, ne-eqb}
 use lib.ListN.{length, getD, take}
 use lib.Dec.{eqb}
+use Rattle.lists.proofs.Tests.{neither}
 use Rattle.plan.specs.declared.Slot.{Slot}
 use Rattle.plan.specs.declared.Scan.{Scan}
 use Rattle.plan.specs.declared.SlotRecord.{SlotRecord}
@@ -54,10 +55,6 @@ writes-by InOut Eavt e v k = refl
 writes-by InIn Aevt e v k = refl
 writes-by InIn Avet e v k = refl
 writes-by InIn Eavt e v k = refl
-
-neither : (a b : Bool) → (a || b) ≡ false → (a ≡ false) × (b ≡ false)
-neither true b e = (e, cc)
-neither false b e = (refl, e)
 
 -- what the check asks of a scan's slots where `set` says which are set, likewise
 module _ (n : ℕ) (set : ℕ → Bool) where

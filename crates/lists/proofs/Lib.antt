@@ -1,3 +1,4 @@
 pub mod Walk
 pub mod Padded
 pub mod Tabled
+pub mod Tests

@@ -1,11 +1,11 @@
 -- An array that is filled from the front with f 0, f 1 and so on.
 use mathlib.Core.Path.{_≡_, refl, sym, _∙_}
-use Prim.Native.Nat.{ℕ, zero, suc, _+_, _<_}
+use Prim.Native.Nat.{ℕ, zero, suc, _+_, _<_, _≤_}
 use mathlib.Core.List.{List, [], _∷_, _++_}
 use native.Mathlib.Numerals.{add-one}
 use native.Mathlib.Omega.{arith}
-use lib.ListN.{length, set, take, replicate, length-append}
-use lib.Seq.{take-suc-set, take-all}
+use lib.ListN.{length, getD, set, take, replicate, length-append}
+use lib.Seq.{take-suc, take-suc-set, take-all}
 use Rattle.lists.specs.Padded.{padded}
 use Rattle.lists.specs.Tabled.{tabled}
 use Rattle.lists.proofs.Padded.{padded-more, padded-none}
@@ -41,3 +41,14 @@ module _ {A : Type 0} (f : ℕ → A) where
       let l = tabled-length i in
       let m : set (padded z n (tabled f i)) (length (tabled f i)) (f i) ≡ padded z n (tabled f i ++ (f i ∷ [])) = padded-more z n (tabled f i) (f i) (omega arith) in
       rw (e, k, add-one) (rw l at m)
+
+-- a table of a list's elements is the list
+tabled-take : {A : Type 0} (f : ℕ → A) (l : List A) (d : A) → ((i : ℕ) → i < length l → f i ≡ getD l i d) → (m : ℕ) → m ≤ length l → tabled f m ≡ take m l
+unfolding tabled
+tabled-take f l d e zero h = refl
+tabled-take f l d e (suc m) h = rw (tabled-take f l d e m (omega arith), e m h) (sym (take-suc l m d h))
+
+pub tabled-same : {A : Type 0} (f : ℕ → A) (l : List A) (d : A) (n : ℕ) → length l ≡ n → ((i : ℕ) → i < n → f i ≡ getD l i d) → tabled f n ≡ l
+tabled-same f l d n long e =
+    let same : (i : ℕ) → i < length l → f i ≡ getD l i d = λ i h. e i (omega (arith, long)) in
+    tabled-take f l d same n (omega (arith, long)) ∙ take-all n l (omega (arith, long))

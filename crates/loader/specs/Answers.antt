@@ -1,4 +1,4 @@
--- How an answer stands in four words, and what the words of a plan hold after a call.
+-- How an answer stands in four words, and what the words of a plan, an order or a swap state hold after a call.
 use Prim.Native.Nat.{ℕ}
 use mathlib.Core.Bool.{Bool, true, false}
 use mathlib.Core.List.{List, [], _∷_}
@@ -7,8 +7,13 @@ use Rattle.refusal.specs.declared.Verdict.{Verdict}
 use Rattle.refusal.specs.declared.Verdict.the-variants.{Fine, Refused}
 use Rattle.refusal.specs.Verdict.{unless}
 use Rattle.plan.specs.declared.Plan.{Plan}
+use Rattle.permutation.specs.declared.Permutations.{Permutations}
+use Rattle.permutation.specs.declared.Swap.{Swap}
+use Rattle.permutation.specs.declared.Step.{Step}
+use Rattle.permutation.specs.Swaps.{nextOf as stepOf}
+use Rattle.swap_words.specs.State.{stateOfWords, wordsOfState}
 use Rattle.words.specs.Words.{planOfWords, queryOfWords}
-use Rattle.words.specs.Write.{wordsOfPlan}
+use Rattle.plan_words.specs.Write.{wordsOfPlan}
 use Rattle.planner.specs.declared.Planned.{Planned}
 use Rattle.planner.specs.Planning.{planOf}
 use Rattle.search.specs.declared.Found.{Found}
@@ -45,7 +50,14 @@ planAfter v p before = unless v (λ _. before) (wordsOfPlan p)
 abbrev pub orderAfter : Verdict → List ℕ → List ℕ → List ℕ
 orderAfter v order before = unless v (λ _. before) order
 
--- what planning, the search and `next` answer of what words say
+-- a swap state's words and the two positions of a swap, in the same way
+abbrev pub stateAfter : Verdict → Permutations → List ℕ → List ℕ
+stateAfter v s before = unless v (λ _. before) (wordsOfState s)
+
+abbrev pub swapAfter : Verdict → Swap → List ℕ → List ℕ
+swapAfter v w before = unless v (λ _. before) (w .0 ∷ w .1 ∷ [])
+
+-- what planning, the search, `next` of plans and `next` of swaps answer of what words say
 abbrev pub plannedOf : List ℕ → Planned
 plannedOf query = planOf (queryOfWords query)
 
@@ -54,6 +66,9 @@ foundOf query = searchOf (queryOfWords query)
 
 abbrev pub steppedOf : List ℕ → NextPlan
 steppedOf plan = nextOf (planOfWords plan)
+
+abbrev pub swappedOf : List ℕ → Step
+swappedOf state = stepOf (stateOfWords state)
 
 -- evaluation: how many rows, and whether another follows
 abbrev pub evaluatedWords : Evaluated → List ℕ

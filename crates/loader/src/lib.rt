@@ -1,10 +1,13 @@
-// The public calls as C functions, for the bootloader; loader/loader.h is their header. Plans and queries are words (crate `words`).
+// The public calls as C functions, for the bootloader; loader/loader.h is their header. Plans and queries are words (crates `words` and `plan_words`), and so are
+// swap states (crate `swap_words`).
 //
 // Each call answers the refusal's number, 0 where there is none, and writes the whole answer into the four words that are lent for it:
 // the number, the place, and two more that each call names (0 where it has none, or where it is refused). A refused call writes
 // nothing else.
 use capacity::MAX_SEARCHED;
+use permutation::Permutations;
 use refusal::Verdict;
+use swap_words::STATE_WORDS;
 use words::PLAN_WORDS;
 use words::QUERY_WORDS;
 ghost use mathlib.Core.Path.{_≡_};
@@ -16,11 +19,15 @@ ghost use Rattle.tables.specs.Check.{tablesFault};
 ghost use Rattle.eval.specs.Evaluation.{evaluateOf, bufferAfter};
 ghost use Rattle.plan_names.specs.Names.{selectNameFault};
 ghost use Rattle.plan_text.specs.Answer.{formattedOf, bufferAfter as textAfter};
+ghost use Rattle.permutation.specs.Swaps.{freshOf};
 ghost use Rattle.words.specs.Words.{planOfWords};
-ghost use Rattle.loader.specs.Answers.{numberOf, placeOf, answerOf, bit, planAfter, orderAfter, plannedOf, foundOf, steppedOf, evaluatedWords, formattedWords, nameWords};
+ghost use Rattle.loader.specs.Answers.{numberOf, placeOf, answerOf, bit, planAfter, orderAfter, stateAfter, swapAfter, plannedOf, foundOf, steppedOf, swappedOf, evaluatedWords, formattedWords, nameWords};
 
 // How many words an answer has.
 pub const ANSWER_WORDS: usize = 4;
+
+// A swap's two positions.
+pub const SWAP_WORDS: usize = 2;
 
 // Plan a query, its statements in the given order. Refusals 10 to 16.
 #[no_mangle]
@@ -40,7 +47,7 @@ pub extern "C" fn loader_plan(
         return number_of(verdict);
     }
     let found = planned.plan;
-    *plan = words::words_of_plan(found);
+    *plan = plan_words::words_of_plan(found);
     0
 }
 
@@ -66,7 +73,7 @@ pub extern "C" fn loader_search(
     let cheapest = found.plan;
     let arranged = found.order;
     *order = arranged;
-    *plan = words::words_of_plan(cheapest);
+    *plan = plan_words::words_of_plan(cheapest);
     0
 }
 
@@ -84,7 +91,7 @@ pub extern "C" fn loader_next(plan: &mut [u64; PLAN_WORDS], answer: &mut [u64; A
         return number_of(verdict);
     }
     let next = stepped.plan;
-    *plan = words::words_of_plan(next);
+    *plan = plan_words::words_of_plan(next);
     0
 }
 
@@ -187,6 +194,55 @@ pub extern "C" fn loader_select_name<'a>(
     let name = plan_names::get_select_name(read, names, ends, index);
     *answer = answer_of(verdict, name.len() as u64, 0);
     number_of(verdict)
+}
+
+// A swap state whose steps list every order of n elements. Refusal 40.
+#[no_mangle]
+pub extern "C" fn loader_permutations(
+    n: usize,
+    state: &mut [u64; STATE_WORDS],
+    answer: &mut [u64; ANSWER_WORDS],
+) -> u64
+    ensures { λ r. ⌜ r ≡ numberOf (freshOf n .verdict) ⌝ }
+    ensures { λ r. ⌜ now (answer .exit) ≡ answerOf (freshOf n .verdict) 0 0 ⌝ }
+    ensures { λ r. ⌜ now (state .exit) ≡ stateAfter (freshOf n .verdict) (freshOf n .state) (now (state .entry)) ⌝ }
+{
+    let fresh = Permutations::new(n);
+    let verdict = fresh.verdict;
+    *answer = answer_of(verdict, 0, 0);
+    if let Verdict::Refused(_) = verdict {
+        return number_of(verdict);
+    }
+    let started = fresh.state;
+    *state = swap_words::words_of_state(started);
+    0
+}
+
+// Step a swap state: the two positions to swap. Answers 1 where there is a swap, and 0 where none is left; the positions are then 0.
+// Refusal 40.
+#[no_mangle]
+pub extern "C" fn loader_next_swap(
+    state: &mut [u64; STATE_WORDS],
+    swap: &mut [u64; SWAP_WORDS],
+    answer: &mut [u64; ANSWER_WORDS],
+) -> u64
+    ensures { λ r. ⌜ r ≡ numberOf (swappedOf (now (state .entry)) .next .verdict) ⌝ }
+    ensures { λ r. ⌜ now (answer .exit) ≡ answerOf (swappedOf (now (state .entry)) .next .verdict) (bit (swappedOf (now (state .entry)) .next .«is_some»)) 0 ⌝ }
+    ensures { λ r. ⌜ now (swap .exit) ≡ swapAfter (swappedOf (now (state .entry)) .next .verdict) (swappedOf (now (state .entry)) .next .swap) (now (swap .entry)) ⌝ }
+    ensures { λ r. ⌜ now (state .exit) ≡ stateAfter (swappedOf (now (state .entry)) .next .verdict) (swappedOf (now (state .entry)) .state) (now (state .entry)) ⌝ }
+{
+    let step = swap_words::read_state(state).next_value();
+    let next = step.next;
+    let verdict = next.verdict;
+    *answer = answer_of(verdict, bit_of(next.is_some), 0);
+    if let Verdict::Refused(_) = verdict {
+        return number_of(verdict);
+    }
+    let positions = next.swap;
+    *swap = [positions.0 as u64, positions.1 as u64];
+    let after = step.state;
+    *state = swap_words::words_of_state(after);
+    0
 }
 
 // The number of a refusal, 0 where there is none; its place.

@@ -23,7 +23,8 @@ use Rattle.plan.specs.declared.Index.the-variants.{Aevt, Avet, Eavt}
 use Rattle.plan.specs.Plan.{zeroScan}
 use Rattle.plan_check.specs.Check.{written as isWritten}
 use Rattle.visits.specs.Visits.{Tables, tableOf, rowFor, inputs, wanted, visited, standing, visits, slotsAt}
-use Rattle.visits.proofs.Slots.{Steady, Agree, key-agree, standing-length, standing-agree, standing-back}
+use Rattle.visits.specs.Sound.{Steady, Agree}
+use Rattle.visits.proofs.Slots.{key-agree, standing-length, standing-agree, standing-back}
 use Rattle.visits.proofs.Steady.{Last}
 use Rattle.meaning.specs.Meaning.{isFact}
 use Rattle.meaning.proofs.Row.{row-back, begins-own, in-order, stands-wanted, stands-still}

@@ -25,8 +25,9 @@ use Rattle.plan.specs.declared.Access.the-variants.{Reads, Writes}
 use Rattle.plan.specs.Plan.{inOrder, firstSlot, secondSlot, firstAccess, secondAccess, entityValueFlow, outOutEavt}
 use Rattle.plan_check.specs.Check.{written as isWritten}
 use Rattle.visits.specs.Visits.{Tables, tableOf, rowFor, factIn, inputs, wanted, written, standing}
-use Rattle.visits.proofs.Stood.{no-yes, neither}
-use Rattle.visits.proofs.Slots.{Steady}
+use Rattle.lists.proofs.Tests.{neither}
+use Rattle.visits.specs.Sound.{Steady}
+use Rattle.visits.proofs.Stood.{no-yes}
 use Rattle.visits.proofs.Steady.{no-writes}
 
 -- a fact's row is that of the fact in it, and the other way round

@@ -17,7 +17,7 @@ use Rattle.orders.proofs.Counts.{timesIn}
 use Rattle.orders.proofs.Act.{visits, within-heap, length-heap}
 use Rattle.orders.proofs.Once.{once}
 use Rattle.orders.proofs.Machine.{follows-start}
-use Rattle.orders.proofs.Listed.{listed-visits, order-at, listed-at, listed-one}
+use Rattle.orders.proofs.Listed.{listed-visits, order-at, listed-one}
 
 -- below a list's length its swaps are given
 given-below : (s : List Swap) (t : ℕ) → t < length s → (w : Swap) × (answerIn s t ≡ given w)
@@ -43,10 +43,6 @@ module _ (n : ℕ) (fits : n ≤ maxElements) where
 
   order-after : (t : ℕ) → OrderOf (upTo n) (orderAt t (start n) (upTo n))
   order-after t = order-at t (heap n) (start n) (upTo n) (rw length-span (within-heap n)) (follows-start n fits)
-
-  -- and nothing else stands there
-  pub listed-only : (y : List ℕ) → (timesIn y (listed (factorial n) (start n) (upTo n)) ≡ 0 → ⊥) → OrderOf (upTo n) y
-  listed-only y h = let o = listed-at (factorial n) (start n) (upTo n) y h in rw (o .2) at (order-after (o .0))
 
   -- the listing is complete
   pub complete : Complete n

@@ -5,13 +5,10 @@ use mathlib.Core.Bool.{Bool, true, false, _||_}
 use borrow.Author.Tests.{ltb-false}
 use lib.Dec.{ltb}
 use Rattle.capacity.specs.Capacity.{maxScans, maxSlots, maxSelects}
+use Rattle.lists.proofs.Tests.{neither}
 use Rattle.refusal.specs.declared.Verdict.the-variants.{Fine}
 use Rattle.refusal.proofs.Fine.{refuse-fine}
 use Rattle.plan.specs.Plan.{countsFault}
-
-or-false : (s t : Bool) → (s || t) ≡ false → (s ≡ false) × (t ≡ false)
-or-false true t e = (e, cc)
-or-false false t e = (refl, e)
 
 -- the counts are within the capacities
 pub record Counted (scans slots selects : ℕ) : Type 0 where
@@ -22,6 +19,6 @@ pub record Counted (scans slots selects : ℕ) : Type 0 where
 pub counts-fine : (scans slots selects : ℕ) → countsFault scans slots selects ≡ Fine → Counted scans slots selects
 unfolding countsFault
 counts-fine scans slots selects e =
-    let a = or-false (ltb maxSlots slots || ltb maxScans scans) (ltb maxSelects selects) (refuse-fine _ _ _ e) in
-    let b = or-false (ltb maxSlots slots) (ltb maxScans scans) (a .0) in
+    let a = neither (ltb maxSlots slots || ltb maxScans scans) (ltb maxSelects selects) (refuse-fine _ _ _ e) in
+    let b = neither (ltb maxSlots slots) (ltb maxScans scans) (a .0) in
     record { few-scans = ltb-false _ _ (b .1); few-slots = ltb-false _ _ (b .0); few-selects = ltb-false _ _ (a .1) }

@@ -10,6 +10,10 @@ use Rattle.query.specs.declared.QueryValue.the-variants.{Const, Var as V
 use Rattle.query.specs.declared.Statement.{Statement}
 use Rattle.query.specs.declared.Query.{Query}
 
+-- the largest number of a variable, and of a slot: it names none (14, 22, 26), and readers take a number past it for this one
+abbrev pub largest : ℕ
+largest = 65535
+
 -- a query's statements and selects: those below its counts
 abbrev pub statementsOf : Query → List Statement
 statementsOf q = take (q .«where_statements» .count) (q .«where_statements» .items)

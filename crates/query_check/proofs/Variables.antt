@@ -8,6 +8,7 @@ use mathlib.Core.Bool.{Bool, true, false, _||_}
 use borrow.Author.Tests.{leb-false}
 use lib.ListN.{length, getD}
 use lib.Dec.{leb}
+use Rattle.lists.proofs.Tests.{neither}
 use Rattle.refusal.specs.declared.Verdict.the-variants.{Fine}
 use Rattle.refusal.specs.Verdict.{refuseIf}
 use Rattle.refusal.proofs.Fine.{refuse-fine, or-fine}
@@ -16,10 +17,6 @@ use Rattle.query.specs.declared.QueryValue.the-variants.{Const, Var as Variable
 use Rattle.query.specs.declared.Statement.{Statement}
 use Rattle.query_check.specs.Refusals.{highValue, high, statementsFault}
 use Rattle.query_check.specs.Below.{ValueBelow, Below}
-
-or-false : (s t : Bool) → (s || t) ≡ false → (s ≡ false) × (t ≡ false)
-or-false true t e = (e, cc)
-or-false false t e = (refl, e)
 
 value-low : (n : ℕ) (v : QueryValue) → highValue n v ≡ false → ValueBelow n v
 value-low n (Const c) e = tt
@@ -30,7 +27,7 @@ pub statements-below : (n : ℕ) (ss : List Statement) (i : ℕ) → statementsF
 unfolding statementsFault
 statements-below n [] i e j d h = absurd (not-suc-le-zero h)
 statements-below n (s ∷ ss) i e zero d h =
-    let o = or-false (leb n (s .entity .0)) (highValue n (s .value)) (refuse-fine _ _ _ (or-fine (refuseIf (high n s) 14 i) _ e .0)) in
+    let o = neither (leb n (s .entity .0)) (highValue n (s .value)) (refuse-fine _ _ _ (or-fine (refuseIf (high n s) 14 i) _ e .0)) in
     record { entity-below = leb-false _ _ (o .0); value-below = value-low n (s .value) (o .1) }
 statements-below n (s ∷ ss) i e (suc j) d h = statements-below n ss (i + 1) (or-fine (refuseIf (high n s) 14 i) _ e .1) j d (le-of-suc-le-suc h)
 

@@ -9,8 +9,9 @@ use lib.Seq.{take-length, drop-length, ext-getD}
 use Rattle.plan.specs.declared.Scan.{Scan}
 use Rattle.plan_check.specs.Check.{written}
 use Rattle.visits.specs.Visits.{Tables, slotsAt}
-use Rattle.visits.proofs.Slots.{Sound, Agree}
-use Rattle.visits.proofs.Pending.{current, currentSlots, current-slots-length, agree-below}
+use Rattle.visits.specs.Sound.{Sound, Agree}
+use Rattle.visits.specs.Pending.{current, currentSlots}
+use Rattle.visits.proofs.Pending.{current-slots-length, agree-below}
 use Rattle.walk.specs.Words.{scanWords, scansIn, Laid}
 use Rattle.walk.specs.Steps.{Ready, Stepped}
 use Rattle.walk.proofs.Words.{laid-length}

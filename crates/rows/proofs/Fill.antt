@@ -10,7 +10,7 @@ use lib.Seq.{drop-drop, drop-append-add, take-add, take-at}
 use Rattle.tables.specs.Rows.{flat}
 use Rattle.plan.specs.declared.Scan.{Scan}
 use Rattle.visits.specs.Visits.{Tables, slotsAt}
-use Rattle.visits.proofs.Pending.{current}
+use Rattle.visits.specs.Pending.{current}
 use Rattle.walk.specs.Steps.{Ready}
 use Rattle.rows.specs.Next.{innermost, remaining, Advanced, selectedBy, rowsAt}
 use Rattle.rows.proofs.Passing.{drop-next}

@@ -7,7 +7,7 @@ use lib.ListN.{length, getD, drop}
 use Rattle.plan.specs.declared.Scan.{Scan}
 use Rattle.visits.specs.Visits.{Tables, slotsAt}
 use Rattle.visits.specs.Window.{window, follows, filled}
-use Rattle.visits.proofs.Pending.{current, pending}
+use Rattle.visits.specs.Pending.{current, pending}
 use Rattle.walk.specs.Steps.{Ready}
 
 -- the innermost scan's number

@@ -7,15 +7,7 @@ use native.Mathlib.Omega.{arith}
 use lib.ListN.{length}
 use Rattle.plan.specs.declared.Scan.{Scan}
 use Rattle.visits.specs.Visits.{Tables, visited, standing, each, visits, slotsAt}
-
--- a visit, and then row k of one more scan
-abbrev pub further : List ℕ → ℕ → List ℕ
-further w k = w ++ (k ∷ [])
-
--- each visit of the scans ss, followed by each row that scan s visits from there
-unfoldable pub extend : Tables → List Scan → Scan → List ℕ → List (List ℕ) → List (List ℕ)
-extend ts ss s slots [] = []
-extend ts ss s slots (w ∷ ws) = map (further w) (visited ts s (slotsAt ts ss slots w)) ++ extend ts ss s slots ws
+use Rattle.visits.specs.Pending.{further, extend}
 
 module _ (ts : Tables) where
   extend-append : (ss : List Scan) (s : Scan) (slots : List ℕ) (vs ws : List (List ℕ))

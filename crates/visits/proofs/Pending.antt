@@ -13,34 +13,10 @@ use Rattle.tables.proofs.Table.{span-step, span-end}
 use Rattle.plan.specs.declared.Scan.{Scan}
 use Rattle.plan.specs.Plan.{zeroScan}
 use Rattle.visits.specs.Visits.{Tables, visited, standing, visits, slotsAt}
-use Rattle.visits.proofs.Nested.{further, extend, visits-snoc, slotsAt-snoc}
-use Rattle.visits.proofs.Slots.{Sound, Agree, standing-back, standing-length}
-
--- the words of an iterator: the number of the row that the scan takes next, and the number past its last
-abbrev pub iterWords : ℕ
-iterWords = 2
-
-abbrev pub position : List ℕ → ℕ → ℕ
-position iters i = getD iters (iterWords * i) 0
-
-abbrev pub ending : List ℕ → ℕ → ℕ
-ending iters i = getD iters (iterWords * i + 1) 0
-
--- where the first i scans stand: each is one before the row that it takes next
-unfoldable pub current : List ℕ → ℕ → List ℕ
-current iters zero = []
-current iters (suc i) = further (current iters i) (position iters i - 1)
-
--- the slots there
-abbrev pub currentSlots : Tables → List Scan → List ℕ → List ℕ → ℕ → List ℕ
-currentSlots ts ss initial iters i = slotsAt ts (take i ss) initial (current iters i)
-
--- scan i's rows that are left, and then what comes of the visits outside it that are left
-unfoldable pub pending : Tables → List Scan → List ℕ → List ℕ → ℕ → List (List ℕ)
-pending ts ss initial iters zero = []
-pending ts ss initial iters (suc i) =
-    map (further (current iters i)) (span (position iters i) (ending iters i - position iters i)) ++
-    extend ts (take i ss) (getD ss i zeroScan) initial (pending ts ss initial iters i)
+use Rattle.visits.specs.Sound.{Sound, Agree}
+use Rattle.visits.specs.Pending.{further, extend, iterWords, position, ending, current, currentSlots, pending}
+use Rattle.visits.proofs.Nested.{visits-snoc, slotsAt-snoc}
+use Rattle.visits.proofs.Slots.{standing-back, standing-length}
 
 -- two states of the iterators are the same below scan i
 abbrev pub SameBelow : ℕ → List ℕ → List ℕ → Type 0

@@ -15,24 +15,9 @@ use Rattle.plan.specs.declared.Access.the-variants.{Reads, Writes}
 use Rattle.plan.specs.Plan.{inOrder, firstSlot, secondSlot, firstAccess, secondAccess, outOutEavt, zeroScan}
 use Rattle.plan_check.specs.Check.{written as isWritten}
 use Rattle.visits.specs.Visits.{Tables, tableOf, rowFor, inputs, wanted, visited, standing}
-use Rattle.visits.proofs.Stood.{stood, no-yes, neither, stood-by, stood-length, stood-other, stood-agree}
-
--- what evaluation leans on of a scan with these after it, in a plan of so many slots
-pub record Steady (count : ℕ) (s : Scan) (after : List Scan) : Type 0 where
-  pub first-in : firstSlot s .0 < count
-  pub second-in : secondSlot s .0 < count
-  pub apart : firstAccess (s .flow) ≡ Writes → firstSlot s .0 ≡ secondSlot s .0 → ⊥
-  pub first-kept : firstAccess (s .flow) ≡ Reads → isWritten (s ∷ after) (firstSlot s .0) ≡ false
-  pub second-kept : secondAccess (s .flow) ≡ Reads → isWritten (s ∷ after) (secondSlot s .0) ≡ false
-  pub not-out-out-eavt : outOutEavt (s .flow) (s .index) ≡ false
-
--- and of all of a plan's scans
-abbrev pub Sound : ℕ → List Scan → Type 0
-Sound count ss = (i : ℕ) → i < length ss → Steady count (getD ss i zeroScan) (drop (suc i) ss)
-
--- two states agree on the slots that none of the scans writes
-pub record Agree (ss : List Scan) (a b : List ℕ) : Type 0 where
-  pub same : (x : ℕ) → isWritten ss x ≡ false → getD a x 0 ≡ getD b x 0
+use Rattle.lists.proofs.Tests.{neither}
+use Rattle.visits.specs.Sound.{stood, Steady, Agree}
+use Rattle.visits.proofs.Stood.{no-yes, stood-by, stood-length, stood-other, stood-agree}
 
 -- a key reads only the slots that the scan reads
 key-by : (x : Index) (f : Flow) (s : Scan) (a b : List ℕ) → outOutEavt f x ≡ false

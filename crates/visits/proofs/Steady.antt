@@ -19,8 +19,8 @@ use Rattle.plan.specs.declared.Access.the-variants.{Reads, Writes}
 use Rattle.plan.specs.Plan.{firstSlot, secondSlot, firstAccess, secondAccess, isConstant, variableSlot, zeroScan, scansOf, slotsOf}
 use Rattle.plan_check.specs.Check.{writesTo, firstWrites, secondWrites, written, isSet}
 use Rattle.plan_check.specs.Promised.{Rightly, Fits, Promised}
-use Rattle.visits.proofs.Stood.{neither}
-use Rattle.visits.proofs.Slots.{Sound}
+use Rattle.lists.proofs.Tests.{neither}
+use Rattle.visits.specs.Sound.{Sound}
 
 -- what a scan leaves in its two slots stays there
 pub record Last (s : Scan) (after : List Scan) : Type 0 where

@@ -16,12 +16,8 @@ use Rattle.plan.specs.declared.Access.the-variants.{Writes}
 use Rattle.plan.specs.Plan.{inOrder, firstAccess, secondAccess, entityValueFlow, outOutEavt}
 use Rattle.plan_check.specs.Check.{writesTo}
 use Rattle.visits.specs.Visits.{factIn, written}
-
--- the slots where a scan stands, by its slots x and y in index order and the words u and v that lie in the row for them
-abbrev pub stood : Flow → ℕ → ℕ → ℕ → ℕ → List ℕ → List ℕ
-stood OutOut x y u v slots = set (set slots x u) y v
-stood InOut x y u v slots = set slots y v
-stood InIn x y u v slots = slots
+use Rattle.lists.proofs.Tests.{neither}
+use Rattle.visits.specs.Sound.{stood}
 
 -- no test is true and false
 pub no-yes : {A : Type 0} → true ≡ false → A
@@ -54,11 +50,6 @@ set-agree a b y v z l m h = go (eqb y z) refl
 
 set-apart : (a : List ℕ) (y v z : ℕ) → eqb y z ≡ false → getD (set a y v) z 0 ≡ getD a z 0
 set-apart a y v z e = getD-set-other a y z v 0 (λ q. eqb-false y z e (sym q))
-
--- two tests of which neither holds
-pub neither : (p q : Bool) → (p || q) ≡ false → (p ≡ false) × (q ≡ false)
-neither false q e = (refl, e)
-neither true q e = no-yes e
 
 -- a scan of this flow, whose slots are x and y, writes slot z
 abbrev writes : Flow → ℕ → ℕ → ℕ → Bool

@@ -1,2 +1,4 @@
 pub mod Visits
 pub mod Window
+pub mod Sound
+pub mod Pending

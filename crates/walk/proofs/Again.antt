@@ -12,8 +12,10 @@ use Rattle.tables.specs.Rows.{count}
 use Rattle.plan.specs.declared.Scan.{Scan}
 use Rattle.plan.specs.Plan.{zeroScan}
 use Rattle.visits.specs.Visits.{Tables, tableOf, visited}
-use Rattle.visits.proofs.Slots.{Sound, Agree, visited-agree}
-use Rattle.visits.proofs.Pending.{iterWords, position, ending, current, currentSlots, pending, SameBelow, current-same, pending-same}
+use Rattle.visits.specs.Sound.{Sound, Agree}
+use Rattle.visits.specs.Pending.{iterWords, position, ending, current, currentSlots, pending}
+use Rattle.visits.proofs.Slots.{visited-agree}
+use Rattle.visits.proofs.Pending.{SameBelow, current-same, pending-same}
 use Rattle.visits.proofs.Pending.{pending-refilled, agree-below}
 use Rattle.walk.specs.Steps.{Ascend, keyOf, Found, Stepped}
 use Rattle.walk.proofs.Turn.{Turn, suc-pred, ends-after}

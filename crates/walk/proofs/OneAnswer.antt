@@ -9,7 +9,7 @@ use Rattle.lists.specs.Span.{span}
 use Rattle.tables.specs.Rows.{rowsOf, ascending}
 use Rattle.plan.specs.declared.Scan.{Scan}
 use Rattle.visits.specs.Visits.{Tables, tableOf}
-use Rattle.visits.proofs.Pending.{current}
+use Rattle.visits.specs.Pending.{current}
 use Rattle.walk.specs.Words.{indexOf}
 use Rattle.walk.specs.Steps.{Found, Stepped}
 

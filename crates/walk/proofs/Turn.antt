@@ -12,9 +12,10 @@ use Rattle.tables.specs.Rows.{count, row}
 use Rattle.plan.specs.declared.Scan.{Scan}
 use Rattle.plan.specs.Plan.{zeroScan}
 use Rattle.visits.specs.Visits.{Tables, tableOf}
-use Rattle.visits.proofs.Nested.{extend}
-use Rattle.visits.proofs.Slots.{Sound, Agree, standing-stood, standing-agree}
-use Rattle.visits.proofs.Pending.{iterWords, position, ending, current, currentSlots, pending, current-same}
+use Rattle.visits.specs.Sound.{Sound, Agree}
+use Rattle.visits.specs.Pending.{extend, iterWords, position, ending, current, currentSlots, pending}
+use Rattle.visits.proofs.Slots.{standing-stood, standing-agree}
+use Rattle.visits.proofs.Pending.{current-same}
 use Rattle.visits.proofs.Pending.{pending-took, pending-dry, current-step, current-slots-length}
 use Rattle.walk.specs.Steps.{filledFrom, Ready, Stepped}
 

@@ -10,9 +10,8 @@ use Rattle.plan.specs.declared.Scan.{Scan}
 use Rattle.plan.specs.declared.Index.{Index}
 use Rattle.plan.specs.Plan.{firstSlot, secondSlot, zeroScan}
 use Rattle.visits.specs.Visits.{Tables, tableOf, rowFor, inputs, wanted}
-use Rattle.visits.proofs.Stood.{stood}
-use Rattle.visits.proofs.Slots.{Agree}
-use Rattle.visits.proofs.Pending.{iterWords, position, ending, current, currentSlots, pending}
+use Rattle.visits.specs.Sound.{stood, Agree}
+use Rattle.visits.specs.Pending.{iterWords, position, ending, current, currentSlots, pending}
 
 abbrev pub tablesOf : List ℕ → List ℕ → List ℕ → Tables
 tablesOf a b c = record { aevt = a; avet = b; eavt = c }

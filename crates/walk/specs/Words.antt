@@ -12,7 +12,7 @@ use Rattle.plan.specs.declared.Flow.{Flow}
 use Rattle.plan.specs.declared.Flow.the-variants.{OutOut, InOut, InIn}
 use Rattle.plan.specs.Plan.{inOrder, firstSlot, secondSlot, zeroScan}
 use Rattle.visits.specs.Visits.{inputs}
-use Rattle.visits.proofs.Slots.{Sound}
+use Rattle.visits.specs.Sound.{Sound}
 
 -- five words a scan
 abbrev pub scanWords : ℕ

@@ -1,3 +1,1 @@
-pub mod Laid
-pub mod Written
-pub mod Back
+pub mod OneAnswer

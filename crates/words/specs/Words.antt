@@ -21,6 +21,7 @@ use Rattle.query.specs.declared.QueryValue.{QueryValue}
 use Rattle.query.specs.declared.QueryValue.the-variants.{Const, Var as AVar}
 use Rattle.query.specs.declared.Statement.{Statement}
 use Rattle.query.specs.declared.Query.{Query}
+use Rattle.query.specs.Query.{largest}
 
 -- where each part of a plan starts, and how many words a plan has
 abbrev pub scanWords : ℕ
@@ -54,10 +55,7 @@ variablesAt = statementsAt + statementWords * maxStatements
 abbrev pub queryWords : ℕ
 queryWords = variablesAt + maxSelects
 
--- the largest number of a slot or a variable; one past it is read as this, which names none either (22, 26, 14)
-abbrev pub largest : ℕ
-largest = 65535
-
+-- a slot's number and a variable's
 abbrev pub slotOf : ℕ → Slot
 slotOf w = record { 0 = min w largest }
 

@@ -1,4 +1,5 @@
-// Plans and queries as words, for callers in other languages: each is an array of u64 with every number at a fixed place.
+// Plans and queries as words, for callers in other languages: each is an array of u64 with every number at a fixed place. This crate
+// reads them; `plan_words` writes a plan.
 //
 // A plan: its counts of scans, slots and selects; then room for MAX_SCANS scans of five words (index 0 aevt, 1 avet, 2 eavt; flow 0
 // out-out, 1 in-out, 2 in-in; entity's slot, attribute, value's slot), for MAX_SLOTS slots of two (1 for a constant, else 0; its value),
@@ -21,6 +22,7 @@ use plan::Scan;
 use plan::Slot;
 use plan::SlotDefinition;
 use plan::SlotRecord;
+use query::LARGEST;
 use query::Query;
 use query::QueryValue;
 use query::Selects;
@@ -28,22 +30,21 @@ use query::Statement;
 use query::Statements;
 use query::Var;
 ghost use mathlib.Core.Path.{_≡_};
-ghost use Prim.Native.Nat.{_+_, _≤_, _<_, min};
-ghost use lib.ListN.{length};
+ghost use Prim.Native.Nat.{_<_, min};
 ghost use Rattle.capacity.specs.Capacity.{maxScans, maxSlots, maxSelects, maxStatements};
-ghost use Rattle.words.specs.Words.{largest, isNoKind, indexOf, flowOf, definitionOf, valueOf, scanAt, slotAt, selectedAt, statementAt, variableAt, scansIn, slotsIn, selectsIn, statementsIn, variablesIn, planOfWords, queryOfWords, scansAt, slotsAt, selectAt, planWords, scanWords, slotWords};
-ghost use Rattle.words.specs.Write.{indexWord, flowWord, constantWord, valueWord, wordsOfScan, wordsOfSlot, wordsOfSelect, laid, wordsOfPlan, putAt};
+ghost use Rattle.query.specs.Query.{largest};
+ghost use Rattle.words.specs.Words.{isNoKind, indexOf, flowOf, definitionOf, valueOf, scanAt, slotAt, selectedAt, statementAt, variableAt, scansIn, slotsIn, selectsIn, statementsIn, variablesIn, planOfWords, queryOfWords};
 
 // Where each part of a plan starts, and how many words a plan has.
 pub const SCAN_WORDS: usize = 5;
 
 pub const SLOT_WORDS: usize = 2;
 
-const SCANS_AT: usize = 3;
+pub const SCANS_AT: usize = 3;
 
-const SLOTS_AT: usize = SCANS_AT + SCAN_WORDS * MAX_SCANS;
+pub const SLOTS_AT: usize = SCANS_AT + SCAN_WORDS * MAX_SCANS;
 
-const SELECT_AT: usize = SLOTS_AT + SLOT_WORDS * MAX_SLOTS;
+pub const SELECT_AT: usize = SLOTS_AT + SLOT_WORDS * MAX_SLOTS;
 
 pub const PLAN_WORDS: usize = SELECT_AT + MAX_SELECTS;
 
@@ -55,9 +56,6 @@ const STATEMENTS_AT: usize = 3;
 const VARIABLES_AT: usize = STATEMENTS_AT + STATEMENT_WORDS * MAX_STATEMENTS;
 
 pub const QUERY_WORDS: usize = VARIABLES_AT + MAX_SELECTS;
-
-// The largest number of a slot or a variable: no plan has so many slots, and no query so many variables.
-const LARGEST: u64 = 65535;
 
 // The plan that the words say.
 pub fn read_plan(words: &[u64; PLAN_WORDS]) -> Plan
@@ -229,7 +227,11 @@ fn read_variable(words: &[u64; QUERY_WORDS], i: usize) -> Var
 fn short(word: u64) -> u16
     ensures { λ r. ⌜ r ≡ min word largest ⌝ }
 {
-    if word < LARGEST { word as u16 } else { 65535 }
+    if word < LARGEST {
+        word as u16
+    } else {
+        LARGEST as u16
+    }
 }
 
 // Whether the words of an index and a flow are not such.
@@ -287,123 +289,5 @@ fn value_of(is_constant: u64, value: u64) -> QueryValue
     if is_constant == 0 {
         return QueryValue::Var(Var(short(value)));
     }
-    QueryValue::Var(Var(65535))
-}
-
-// The words of a plan.
-pub fn words_of_plan(plan: Plan) -> [u64; PLAN_WORDS]
-    ensures { λ r. ⌜ r ≡ wordsOfPlan plan ⌝ }
-{
-    let scans = plan.scans;
-    let slots = plan.slots;
-    let select = plan.select;
-    let mut words = [0u64; PLAN_WORDS];
-    words[0] = plan.scan_count as u64;
-    words[1] = plan.slot_count as u64;
-    words[2] = plan.select_count as u64;
-    write_scans(scans, &mut words);
-    write_slots(slots, &mut words);
-    write_select(select, &mut words);
-    words
-}
-
-fn write_scans(scans: [Scan; MAX_SCANS], words: &mut [u64])
-    requires { ⌜ length (now words) ≡ planWords ⌝ }
-    ensures { λ r. ⌜ now (words .exit) ≡ putAt scansAt (laid wordsOfScan scans) (now (words .entry)) ⌝ }
-{
-    let mut i: usize = 0;
-    while i < MAX_SCANS {
-        write_scan(scans[i], SCANS_AT + SCAN_WORDS * i, words);
-        i += 1;
-    }
-}
-
-fn write_slots(slots: [SlotRecord; MAX_SLOTS], words: &mut [u64])
-    requires { ⌜ length (now words) ≡ planWords ⌝ }
-    ensures { λ r. ⌜ now (words .exit) ≡ putAt slotsAt (laid wordsOfSlot slots) (now (words .entry)) ⌝ }
-{
-    let mut i: usize = 0;
-    while i < MAX_SLOTS {
-        write_slot(slots[i], SLOTS_AT + SLOT_WORDS * i, words);
-        i += 1;
-    }
-}
-
-fn write_select(select: [Slot; MAX_SELECTS], words: &mut [u64])
-    requires { ⌜ length (now words) ≡ planWords ⌝ }
-    ensures { λ r. ⌜ now (words .exit) ≡ putAt selectAt (laid wordsOfSelect select) (now (words .entry)) ⌝ }
-{
-    let mut i: usize = 0;
-    while i < MAX_SELECTS {
-        write_selected(select[i], SELECT_AT + i, words);
-        i += 1;
-    }
-}
-
-// Write a scan's words, from `at` on; a slot's; a select's.
-fn write_scan(scan: Scan, at: usize, words: &mut [u64])
-    requires { ⌜ at + scanWords ≤ length (now words) ⌝ }
-    ensures { λ r. ⌜ now (words .exit) ≡ putAt at (wordsOfScan scan) (now (words .entry)) ⌝ }
-{
-    let index = scan.index;
-    let flow = scan.flow;
-    words[at] = index_word(index);
-    words[at + 1] = flow_word(flow);
-    words[at + 2] = scan.entity.0 as u64;
-    words[at + 3] = scan.attribute.0;
-    words[at + 4] = scan.value.0 as u64;
-}
-
-fn write_slot(slot: SlotRecord, at: usize, words: &mut [u64])
-    requires { ⌜ at + slotWords ≤ length (now words) ⌝ }
-    ensures { λ r. ⌜ now (words .exit) ≡ putAt at (wordsOfSlot slot) (now (words .entry)) ⌝ }
-{
-    let definition = slot.definition;
-    words[at] = constant_word(definition);
-    words[at + 1] = value_word(definition);
-}
-
-fn write_selected(slot: Slot, at: usize, words: &mut [u64])
-    requires { ⌜ at + 1 ≤ length (now words) ⌝ }
-    ensures { λ r. ⌜ now (words .exit) ≡ putAt at (wordsOfSelect slot) (now (words .entry)) ⌝ }
-{
-    words[at] = slot.0 as u64;
-}
-
-fn index_word(index: Index) -> u64
-    ensures { λ r. ⌜ r ≡ indexWord index ⌝ }
-{
-    match index {
-        Index::Aevt => 0,
-        Index::Avet => 1,
-        Index::Eavt => 2,
-    }
-}
-
-fn flow_word(flow: Flow) -> u64
-    ensures { λ r. ⌜ r ≡ flowWord flow ⌝ }
-{
-    match flow {
-        Flow::OutOut => 0,
-        Flow::InOut => 1,
-        Flow::InIn => 2,
-    }
-}
-
-fn constant_word(definition: SlotDefinition) -> u64
-    ensures { λ r. ⌜ r ≡ constantWord definition ⌝ }
-{
-    match definition {
-        SlotDefinition::Variable => 0,
-        SlotDefinition::Constant(_) => 1,
-    }
-}
-
-fn value_word(definition: SlotDefinition) -> u64
-    ensures { λ r. ⌜ r ≡ valueWord definition ⌝ }
-{
-    match definition {
-        SlotDefinition::Variable => 0,
-        SlotDefinition::Constant(value) => value,
-    }
+    QueryValue::Var(Var(LARGEST as u16))
 }

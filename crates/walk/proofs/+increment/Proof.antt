@@ -8,7 +8,7 @@ use borrow.Author.Tests.{not-true, not-false}
 use borrow.Fn.Kinds.{In}
 use borrow.Fn.PlainCycle.{Measures, is, falls, and}
 use lib.ListN.{length, length-set}
-use Rattle.visits.proofs.Pending.{iterWords, pending}
+use Rattle.visits.specs.Pending.{iterWords, pending}
 use Rattle.walk.specs.Words.{scansIn}
 use Rattle.walk.specs.Steps.{tablesOf}
 use Rattle.walk.proofs.Words.{laid-lies, table-is}

@@ -1,0 +1,4 @@
+pub mod Laid
+pub mod Written
+pub mod Back
+pub mod OneAnswer

@@ -1,0 +1,140 @@
+// A plan written as words, as crate `words` reads it.
+use capacity::MAX_SCANS;
+use capacity::MAX_SELECTS;
+use capacity::MAX_SLOTS;
+use plan::Flow;
+use plan::Index;
+use plan::Plan;
+use plan::Scan;
+use plan::Slot;
+use plan::SlotDefinition;
+use plan::SlotRecord;
+use words::PLAN_WORDS;
+use words::SCAN_WORDS;
+use words::SCANS_AT;
+use words::SELECT_AT;
+use words::SLOT_WORDS;
+use words::SLOTS_AT;
+ghost use mathlib.Core.Path.{_≡_};
+ghost use Prim.Native.Nat.{_+_, _≤_};
+ghost use lib.ListN.{length};
+ghost use Rattle.words.specs.Words.{scansAt, slotsAt, selectAt, planWords, scanWords, slotWords};
+ghost use Rattle.plan_words.specs.Write.{indexWord, flowWord, constantWord, valueWord, wordsOfScan, wordsOfSlot, wordsOfSelect, laid, wordsOfPlan, putAt};
+
+// The words of a plan.
+pub fn words_of_plan(plan: Plan) -> [u64; PLAN_WORDS]
+    ensures { λ r. ⌜ r ≡ wordsOfPlan plan ⌝ }
+{
+    let scans = plan.scans;
+    let slots = plan.slots;
+    let select = plan.select;
+    let mut words = [0u64; PLAN_WORDS];
+    words[0] = plan.scan_count as u64;
+    words[1] = plan.slot_count as u64;
+    words[2] = plan.select_count as u64;
+    write_scans(scans, &mut words);
+    write_slots(slots, &mut words);
+    write_select(select, &mut words);
+    words
+}
+
+fn write_scans(scans: [Scan; MAX_SCANS], words: &mut [u64])
+    requires { ⌜ length (now words) ≡ planWords ⌝ }
+    ensures { λ r. ⌜ now (words .exit) ≡ putAt scansAt (laid wordsOfScan scans) (now (words .entry)) ⌝ }
+{
+    let mut i: usize = 0;
+    while i < MAX_SCANS {
+        write_scan(scans[i], SCANS_AT + SCAN_WORDS * i, words);
+        i += 1;
+    }
+}
+
+fn write_slots(slots: [SlotRecord; MAX_SLOTS], words: &mut [u64])
+    requires { ⌜ length (now words) ≡ planWords ⌝ }
+    ensures { λ r. ⌜ now (words .exit) ≡ putAt slotsAt (laid wordsOfSlot slots) (now (words .entry)) ⌝ }
+{
+    let mut i: usize = 0;
+    while i < MAX_SLOTS {
+        write_slot(slots[i], SLOTS_AT + SLOT_WORDS * i, words);
+        i += 1;
+    }
+}
+
+fn write_select(select: [Slot; MAX_SELECTS], words: &mut [u64])
+    requires { ⌜ length (now words) ≡ planWords ⌝ }
+    ensures { λ r. ⌜ now (words .exit) ≡ putAt selectAt (laid wordsOfSelect select) (now (words .entry)) ⌝ }
+{
+    let mut i: usize = 0;
+    while i < MAX_SELECTS {
+        write_selected(select[i], SELECT_AT + i, words);
+        i += 1;
+    }
+}
+
+// Write a scan's words, from `at` on; a slot's; a select's.
+fn write_scan(scan: Scan, at: usize, words: &mut [u64])
+    requires { ⌜ at + scanWords ≤ length (now words) ⌝ }
+    ensures { λ r. ⌜ now (words .exit) ≡ putAt at (wordsOfScan scan) (now (words .entry)) ⌝ }
+{
+    let index = scan.index;
+    let flow = scan.flow;
+    words[at] = index_word(index);
+    words[at + 1] = flow_word(flow);
+    words[at + 2] = scan.entity.0 as u64;
+    words[at + 3] = scan.attribute.0;
+    words[at + 4] = scan.value.0 as u64;
+}
+
+fn write_slot(slot: SlotRecord, at: usize, words: &mut [u64])
+    requires { ⌜ at + slotWords ≤ length (now words) ⌝ }
+    ensures { λ r. ⌜ now (words .exit) ≡ putAt at (wordsOfSlot slot) (now (words .entry)) ⌝ }
+{
+    let definition = slot.definition;
+    words[at] = constant_word(definition);
+    words[at + 1] = value_word(definition);
+}
+
+fn write_selected(slot: Slot, at: usize, words: &mut [u64])
+    requires { ⌜ at + 1 ≤ length (now words) ⌝ }
+    ensures { λ r. ⌜ now (words .exit) ≡ putAt at (wordsOfSelect slot) (now (words .entry)) ⌝ }
+{
+    words[at] = slot.0 as u64;
+}
+
+fn index_word(index: Index) -> u64
+    ensures { λ r. ⌜ r ≡ indexWord index ⌝ }
+{
+    match index {
+        Index::Aevt => 0,
+        Index::Avet => 1,
+        Index::Eavt => 2,
+    }
+}
+
+fn flow_word(flow: Flow) -> u64
+    ensures { λ r. ⌜ r ≡ flowWord flow ⌝ }
+{
+    match flow {
+        Flow::OutOut => 0,
+        Flow::InOut => 1,
+        Flow::InIn => 2,
+    }
+}
+
+fn constant_word(definition: SlotDefinition) -> u64
+    ensures { λ r. ⌜ r ≡ constantWord definition ⌝ }
+{
+    match definition {
+        SlotDefinition::Variable => 0,
+        SlotDefinition::Constant(_) => 1,
+    }
+}
+
+fn value_word(definition: SlotDefinition) -> u64
+    ensures { λ r. ⌜ r ≡ valueWord definition ⌝ }
+{
+    match definition {
+        SlotDefinition::Variable => 0,
+        SlotDefinition::Constant(value) => value,
+    }
+}
