@@ -1,12 +1,12 @@
 -- How long the program's lines can be: a word has at most 20 digits.
-use mathlib.Core.Path.{_≡_, ap}
+use mathlib.Core.Path.{_≡_, refl}
 use mathlib.Core.Logic.{⊎-elim}
 use mathlib.Core.Bool.{Bool, true, false, cond}
 use mathlib.Core.List.{List, [], _∷_, _++_}
 use Prim.Native.Nat.{ℕ, zero, suc, _+_, _*_, _/_, _%_, _^_, _≤_, _<_, min}
 use native.Mathlib.Nat.{min-le-left, eq-or-lt-of-le}
 use native.Mathlib.Omega.{arith}
-use lib.ListN.{length, length-append}
+use lib.ListN.{length, take, getD, length-append}
 use lib.Dec.{leb}
 use Rattle.pieces.specs.Ascii.{ascii}
 use Rattle.pieces.specs.Decimal.{digit, decimal}
@@ -40,3 +40,25 @@ module _ (number place : ℕ) (byte : number < 2 ^ 8) (word : place < 2 ^ 64) wh
 pub cost-short : (cost : ℕ) → cost < 2 ^ 64 → length (costLine cost) ≤ 7 + wordDigits
 unfolding costLine
 cost-short cost h = let a = word-short cost h in simp length-append (omega arith)
+
+-- the text of a word of a row: a byte parts it from what follows
+pub word-text-short : (word left : ℕ) → word < 2 ^ 64 → length (wordText word left) ≤ wordDigits + 1
+unfolding wordText
+word-text-short word left h =
+    let a = word-short word h in
+    let b : length (cond (leb left 1) (ascii "\n") (ascii " ")) ≡ 1 = parted (leb left 1) in
+    simp length-append (omega arith)
+  where
+    parted : (t : Bool) → length (cond t (ascii "\n") (ascii " ")) ≡ 1
+    parted true = refl
+    parted false = refl
+
+-- the lines of the first words of some
+pub rows-short : (n width left : ℕ) (words : List ℕ) → ((i : ℕ) → getD words i 0 < 2 ^ 64) → length (rowLines width left (take n words)) ≤ (wordDigits + 1) * length words
+unfolding rowLines
+rows-short zero width left words h = omega arith
+rows-short (suc n) width left [] h = omega arith
+rows-short (suc n) width left (w ∷ words) h =
+    let a = word-text-short w left (h 0) in
+    let b = rows-short n width (leftAfter left width) words (λ i. h (suc i)) in
+    omega (arith, length-append (wordText w left) (rowLines width (leftAfter left width) (take n words)))
