@@ -175,13 +175,7 @@ fn open_with(
 }
 
 // The text's refusal comes before that of evaluation.
-fn showing_fault(
-    words: &[u64],
-    plan: Plan,
-    names: &[u8],
-    ends: &[usize],
-    out: &[u8],
-) -> Verdict
+fn showing_fault(words: &[u64], plan: Plan, names: &[u8], ends: &[usize], out: &[u8]) -> Verdict
     ensures { λ r. ⌜ r ≡ showingFault (now (words .entry)) plan (now (names .entry)) (now (ends .entry)) (length (now (out .entry))) ⌝ }
 {
     let verdict = text_fault(plan, names, ends, out);

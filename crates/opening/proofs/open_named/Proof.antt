@@ -18,7 +18,7 @@ slice-aggregate-open-with c = sym (length-take-le _ _ (omega (arith, c .before .
 
 returns : tie.Need-returns
 returns c = let a = c .before .before .before .before .before .before .before .before .before .before .before .before .before .before .before .args in
-  opens-as (ends-as-said (a .words .now) (a .plan) (a .cost) (a .names .now) _ _ _ _ _ _ (c .before .before .before .before .before .before .before .before .before .before .before .ends-in .ensures) (c .before .before .before .before .before .before .before .word-at .ensures) (c .before .before .before .before .before .before .constants-of .ensures) (c .before .before .before .before .before .count-ends .ensures) (c .before .before .before .before .before .before .before .before .before .read-ends .ensures)) (c .before .before .open-with .ensures)
+    opens-as (ends-as-said (a .words .now) (a .plan) (a .cost) (a .names .now) _ _ _ _ _ _ (c .before .before .before .before .before .before .before .before .before .before .before .ends-in .ensures) (c .before .before .before .before .before .before .before .word-at .ensures) (c .before .before .before .before .before .before .constants-of .ensures) (c .before .before .before .before .before .count-ends .ensures) (c .before .before .before .before .before .before .before .before .before .read-ends .ensures)) (c .before .before .open-with .ensures)
 
 pub open-named-spec : {M : Type 1} → statement M
 open-named-spec =

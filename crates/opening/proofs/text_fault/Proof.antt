@@ -12,8 +12,8 @@ slice-aggregate-measure c = sym (length-take-le _ _ (omega (arith, c .before .be
 
 returns : tie.Need-returns
 returns c = let a = c .before .before .before .before .before .before .args in
-  let e = c .before .before .beside-cost .ensures in
-  fault-is _ _ _ _ _ (c .measure .ensures) ∙ ap (textFault (a .plan) (a .names .now) (a .ends .now)) (length-take-le _ _ (omega arith) ∙ e)
+    let e = c .before .before .beside-cost .ensures in
+    fault-is _ _ _ _ _ (c .measure .ensures) ∙ ap (textFault (a .plan) (a .names .now) (a .ends .now)) (length-take-le _ _ (omega arith) ∙ e)
 
 pub text-fault-spec : {M : Type 1} → statement M
 text-fault-spec =
