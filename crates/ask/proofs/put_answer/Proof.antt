@@ -1,3 +1,4 @@
+-- `put_answer` is safe: what is said fits in the buffer.
 use mathlib.Core.Path.{sym}
 use native.Mathlib.Omega.{arith}
 use lib.Seq.{length-take-le}
@@ -6,21 +7,12 @@ use borrow.Author.Needs.{needs}
 use Rattle.ask.proofs.put_answer.Statement.{statement}
 use Rattle.ask.proofs.put_answer.Tie as tie
 
--- src/main.rt:65:9
--- src/main.rt:67:9
 slice-reshare-prefix-put : tie.Need-slice-reshare-prefix-put
 slice-reshare-prefix-put c = let w = c .before .before .«open» .ensures .line in omega (arith, w .fits (omega arith), written-length (w .is-written))
 
--- src/main.rt:67:9
 slice-aggregate-put : tie.Need-slice-aggregate-put
 slice-aggregate-put c = let w = c .before .before .before .«open» .ensures .line in sym (length-take-le _ _ (omega (arith, w .fits (omega arith), written-length (w .is-written))))
 
--- src/main.rt:67:5
--- src/main.rt:70:9
--- src/main.rt:62:1
--- src/main.rt:62:1
--- src/main.rt:62:1
--- src/main.rt:62:1
 pub put-answer-spec : {M : Type 1} → statement M
 put-answer-spec =
     tie.close

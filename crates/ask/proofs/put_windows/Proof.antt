@@ -1,3 +1,4 @@
+-- `put_windows` is safe and ends: each window fits in the buffer, and after each but the last fewer rows are left.
 use borrow.Author.Needs.{needs}
 use mathlib.Core.Path.{_≡_, sym}
 use native.Mathlib.Omega.{arith}
@@ -15,26 +16,15 @@ Inv-loop plan aevt avet eavt start most out₀ rows₀ from₀ left₀ out rows 
 abbrev μ-loop : tie.MeasureT-loop
 μ-loop plan aevt avet eavt start most out₀ rows₀ from₀ left₀ out rows from left = left
 
--- src/main.rt:103:20
--- src/main.rt:106:5
--- src/main.rt:107:72
--- src/main.rt:107:13
--- src/main.rt:109:13
 slice-reshare-prefix-put : tie.Need-slice-reshare-prefix-put Inv-loop μ-loop
 slice-reshare-prefix-put c = let w = c .before .before .before .show .ensures in omega (arith, w .fits (omega arith), written-length (w .is-written))
 
--- src/main.rt:109:13
 slice-aggregate-put : tie.Need-slice-aggregate-put Inv-loop μ-loop
 slice-aggregate-put c = let w = c .before .before .before .before .show .ensures in sym (length-take-le _ _ (omega (arith, w .fits (omega arith), written-length (w .is-written))))
 
--- src/main.rt:109:9
--- src/main.rt:111:13
--- src/main.rt:111:13
--- src/main.rt:106:5
 loop-less : tie.Need-loop-less Inv-loop μ-loop
 loop-less c = falls (c .before .before .before .before .before .before .show .ensures) (c .if1 .left)
 
--- src/main.rt:106:5
 pub put-windows-spec : {M : Type 1} → statement M
 put-windows-spec =
     tie.close

@@ -1,11 +1,9 @@
+-- `read` meets its contract.
 use Rattle.ask.proofs.Counted.{count-within}
 use borrow.Author.Needs.{needs}
 use Rattle.ask.proofs.read.Statement.{statement}
 use Rattle.ask.proofs.read.Tie as tie
 
--- src/main.rt:58:9
--- src/main.rt:55:1
--- src/main.rt:55:1
 returns : tie.Need-returns
 returns c = count-within _ _ _ (c .before .before .read-words .ensures .0)
 

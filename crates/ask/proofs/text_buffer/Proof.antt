@@ -1,3 +1,4 @@
+-- `text_buffer` is as long as it says.
 use mathlib.Core.Path.{sym}
 use Prim.Native.Nat.{ℕ}
 use lib.ListN.{length-replicate}
@@ -5,7 +6,6 @@ use Rattle.ask.specs.Capacity.{textBytes}
 use Rattle.ask.proofs.text_buffer.Statement.{statement}
 use Rattle.ask.proofs.text_buffer.Tie as tie
 
--- src/main.rt:29:1
 returns : tie.Need-returns
 returns c = sym (length-replicate {0} {A = ℕ} textBytes 0)
 

@@ -1,3 +1,4 @@
+-- `evaluation_fault` meets its contract: the parts are the tables.
 use mathlib.Core.Path.{_∙_}
 use Rattle.opening.proofs.Said.{over-tables}
 use borrow.Author.Needs.{needs}

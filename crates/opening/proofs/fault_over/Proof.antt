@@ -1,3 +1,4 @@
+-- `fault_over` meets its contract: the verdict does not depend on the window.
 use Rattle.opening.proofs.Said.{evaluation-verdict}
 use borrow.Author.Needs.{needs}
 use Rattle.opening.proofs.fault_over.Statement.{statement}

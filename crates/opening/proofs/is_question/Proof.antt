@@ -1,3 +1,4 @@
+-- `is_question` meets its contract, test by test.
 use mathlib.Core.Path.{sym, _∙_}
 use borrow.Author.Tests.{not-true, not-false}
 use Rattle.opening.proofs.Said.{no-question, question-is}

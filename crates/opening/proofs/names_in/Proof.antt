@@ -1,3 +1,4 @@
+-- `names_in` meets its contract: the part is the definition's.
 use mathlib.Core.Path.{ap, _∙_}
 use Rattle.asked.specs.declared.Parts.{Parts}
 use Rattle.asked.specs.Parts.{itemsOf}

@@ -1,3 +1,4 @@
+-- `only` meets its contract.
 use borrow.Author.Needs.{needs}
 use Rattle.opening.proofs.only.Statement.{statement}
 use Rattle.opening.proofs.only.Tie as tie

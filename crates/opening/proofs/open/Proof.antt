@@ -1,3 +1,4 @@
+-- `open` meets its contract: no question, a refusal, or a plan.
 use mathlib.Core.Path.{sym, _∙_}
 use borrow.Author.Tests.{not-true, not-false}
 use Rattle.opening.proofs.Said.{opens-as, said-outside, said-refused, said-planned}

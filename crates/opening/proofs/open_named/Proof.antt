@@ -1,3 +1,4 @@
+-- `open_named` meets its contract: the ends that the buffer holds say what all of them say.
 use mathlib.Core.Path.{sym}
 use native.Mathlib.Omega.{arith}
 use lib.Seq.{length-take-le}

@@ -1,3 +1,4 @@
+-- `open_planned` meets its contract: there is room for the names of a question.
 use mathlib.Core.Path.{sym, ap}
 use native.Mathlib.Omega.{arith}
 use lib.ListN.{length}

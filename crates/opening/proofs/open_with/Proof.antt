@@ -1,3 +1,4 @@
+-- `open_with` meets its contract: a refusal, or the plan text and the cost.
 use mathlib.Core.Path.{refl}
 use Rattle.opening.proofs.Said.{opens-as, opened-refused, opened-fine, text-fine}
 use borrow.Author.Needs.{needs}

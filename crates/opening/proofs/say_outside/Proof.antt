@@ -1,3 +1,4 @@
+-- `say_outside` meets its contract.
 use Rattle.opening.proofs.Said.{opens-only, outside-written}
 use borrow.Author.Needs.{needs}
 use Rattle.opening.proofs.say_outside.Statement.{statement}

@@ -1,3 +1,4 @@
+-- `say_refusal` meets its contract.
 use Rattle.opening.proofs.Said.{opens-only}
 use borrow.Author.Needs.{needs}
 use Rattle.opening.proofs.say_refusal.Statement.{statement}

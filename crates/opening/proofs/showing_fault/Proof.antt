@@ -1,3 +1,4 @@
+-- `showing_fault` meets its contract: the text's refusal first.
 use mathlib.Core.Path.{_∙_}
 use Rattle.opening.proofs.Said.{text-first, then-evaluation}
 use borrow.Author.Needs.{needs}

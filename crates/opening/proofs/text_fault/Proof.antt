@@ -1,3 +1,4 @@
+-- `text_fault` meets its contract: the part of the buffer is as long as it says.
 use mathlib.Core.Path.{sym, ap, _∙_}
 use native.Mathlib.Omega.{arith}
 use lib.Seq.{length-take-le}

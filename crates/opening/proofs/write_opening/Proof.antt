@@ -1,3 +1,4 @@
+-- `write_opening` meets its contract: the text fits beside the cost line.
 use native.Mathlib.Omega.{arith}
 use Rattle.opening.proofs.Said.{opening-written}
 use borrow.Author.Needs.{needs}

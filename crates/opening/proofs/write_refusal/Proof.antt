@@ -1,3 +1,4 @@
+-- `write_refusal` meets its contract: the line is short.
 use native.Mathlib.Omega.{arith}
 use Rattle.opening.proofs.Said.{refusal-written}
 use borrow.Author.Needs.{needs}

@@ -1,3 +1,4 @@
+-- `write_verdict` meets its contract, case by case.
 use native.Mathlib.Omega.{arith}
 use Rattle.opening.proofs.Said.{none-written}
 use borrow.Author.Needs.{needs}

@@ -1,3 +1,4 @@
+-- `advance` meets its contract: where another window follows, nothing wraps.
 use mathlib.Core.Path.{sym, _∙_}
 use native.Mathlib.Omega.{arith}
 use Rattle.windows.proofs.Stepped.{goes, step-last, step-on}

@@ -1,3 +1,4 @@
+-- `fill` meets its contract: the rows of the part that was lent.
 use mathlib.Core.Path.{_≡_, sym}
 use native.Mathlib.Omega.{arith}
 use lib.ListN.{length, length-map}

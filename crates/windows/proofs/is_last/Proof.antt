@@ -1,3 +1,4 @@
+-- `is_last` meets its contract, test by test.
 use borrow.Author.Tests.{not-true, not-false}
 use Rattle.windows.proofs.Stepped.{none-follows, all-shown, no-row-fits, by-number}
 use borrow.Author.Needs.{needs}

@@ -1,3 +1,4 @@
+-- `room_for` meets its contract: no more than the buffer.
 use native.Mathlib.Omega.{arith}
 use Rattle.windows.proofs.InFront.{room-within, room-least, room-all, room-none}
 use borrow.Author.Needs.{needs}

@@ -1,3 +1,4 @@
+-- `show` meets its contract: lines, and after the last window the last line.
 use Rattle.windows.proofs.Shown.{shows}
 use borrow.Author.Needs.{needs}
 use Rattle.windows.proofs.show.Statement.{statement}

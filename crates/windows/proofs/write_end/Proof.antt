@@ -1,3 +1,4 @@
+-- `write_end` meets its contract, case by case.
 use native.Mathlib.Omega.{arith}
 use borrow.Author.Tests.{not-true, not-false}
 use Rattle.pieces.proofs.Written.{written-none}

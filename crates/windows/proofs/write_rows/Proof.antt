@@ -1,3 +1,4 @@
+-- `write_rows` meets its contract: a word has at most 20 digits.
 use mathlib.Core.Path.{sym}
 use Prim.Native.Nat.{_*_}
 use native.Mathlib.Omega.{arith}
