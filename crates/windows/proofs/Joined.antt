@@ -136,10 +136,13 @@ module _ (p : Plan) (ts : Tables) (selects : length (p .select) ≡ maxSelects) 
     further =
         rw (← (step-on (moreOf p ts from left room) count from left on)) (omega (arith, going .some-shown), omega (arith, going .some-shown, going .some-left))
 
-  -- the text of all rows is that of this window and of those after it
-  pub joined : from + length rows ≤ largest → rowsText p ts from left ≡ windowText p ts from left room ++ textAfter p ts (windowStep p ts from left room)
-  joined numbered = by-cases (isLast (moreOf p ts from left room) count from left) refl
+  -- the text of all rows is that of this window and of those after it, where every row has a number
+  pub joined : from ≤ largest → length (rowsOf p ts) ≤ largest → rowsText p ts from left ≡ windowText p ts from left room ++ textAfter p ts (windowStep p ts from left room)
+  joined first all = by-cases (isLast (moreOf p ts from left room) count from left) refl
     where
+      numbered : from + length rows ≤ largest
+      numbered = omega (arith, length-drop from (rowsOf p ts))
+
       by-cases : (t : Bool) → isLast (moreOf p ts from left room) count from left ≡ t → rowsText p ts from left ≡ windowText p ts from left room ++ textAfter p ts (windowStep p ts from left room)
       by-cases true e = last-joined numbered e
       by-cases false e = on-joined e
