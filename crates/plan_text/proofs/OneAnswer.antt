@@ -12,3 +12,7 @@ use Rattle.plan_text.specs.Answer.{formattedOf, bufferAfter}
 pub fmt-one : (p : Plan) (names ends buffer : List ℕ) (r r′ : Formatted) (b b′ : List ℕ) → r ≡ formattedOf p names ends (length buffer)
     → r′ ≡ formattedOf p names ends (length buffer) → b ≡ bufferAfter p names ends buffer → b′ ≡ bufferAfter p names ends buffer → (r ≡ r′) × (b ≡ b′)
 fmt-one p names ends buffer r r′ b b′ e f g h = (one-answer e f, one-answer g h)
+
+-- `measure`
+pub measure-one : (p : Plan) (names ends : List ℕ) (room : ℕ) {r r′ : Formatted} → r ≡ formattedOf p names ends room → r′ ≡ formattedOf p names ends room → r ≡ r′
+measure-one p names ends room e f = one-answer e f

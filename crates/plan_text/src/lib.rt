@@ -42,6 +42,19 @@ pub fn fmt(plan: Plan, names: &[u8], ends: &[usize], out: &mut [u8]) -> Formatte
     ensures { λ r. ⌜ r ≡ formattedOf plan (now (names .entry)) (now (ends .entry)) (length (now (out .entry))) ⌝ }
     ensures { λ r. ⌜ now (out .exit) ≡ bufferAfter plan (now (names .entry)) (now (ends .entry)) (now (out .entry)) ⌝ }
 {
+    let measured = measure(plan, names, ends, out);
+    let verdict = measured.verdict;
+    if let Verdict::Refused(_) = verdict {
+        return measured;
+    }
+    write_plan(plan, names, ends, out);
+    measured
+}
+
+// What `fmt` answers for a buffer; nothing is written.
+pub fn measure(plan: Plan, names: &[u8], ends: &[usize], out: &[u8]) -> Formatted
+    ensures { λ r. ⌜ r ≡ formattedOf plan (now (names .entry)) (now (ends .entry)) (length (now (out .entry))) ⌝ }
+{
     let checked = plan_names::check_names(plan, names, ends);
     if let Verdict::Refused(_) = checked {
         return Formatted {
@@ -49,17 +62,16 @@ pub fn fmt(plan: Plan, names: &[u8], ends: &[usize], out: &mut [u8]) -> Formatte
             length: 0,
         };
     }
-    let room = out.len();
     // Written to no bytes, the text is only counted.
-    let length = write_plan(plan, names, ends, &mut out[..0]);
-    if room < length {
+    let mut none = [0u8; 0];
+    let length = write_plan(plan, names, ends, &mut none);
+    if out.len() < length {
         let too_short = refuse(refusal::TEXT_TOO_SHORT, 0);
         return Formatted {
             verdict: too_short,
             length: 0,
         };
     }
-    write_plan(plan, names, ends, out);
     Formatted {
         verdict: Verdict::Fine,
         length: length,

@@ -2,7 +2,7 @@
 use mathlib.Core.List.{List, [], _∷_, _++_, map}
 use Prim.Native.Nat.{ℕ, zero, suc, _+_, _*_, _-_}
 use lib.ListN.{getD, take}
-use Rattle.tables.specs.Rows.{span}
+use Rattle.lists.specs.Span.{span}
 use Rattle.plan.specs.declared.Scan.{Scan}
 use Rattle.plan.specs.Plan.{zeroScan}
 use Rattle.visits.specs.Visits.{Tables, visited, slotsAt}

@@ -1,26 +1,19 @@
--- `fmt` meets its contract: refused, nothing is written; the text that was counted is the text that is written.
+-- `fmt` meets its contract: refused, nothing is written; the text that was measured is the text that is written.
 use mathlib.Core.Path.{sym, _∙_}
-use native.Mathlib.Omega.{arith}
-use borrow.Author.Needs.{needs}
 use Rattle.plan_names.proofs.Fine.{names-fine}
-use Rattle.plan_text.proofs.Answers.{answer-refused, answer-short, answer-fits}
+use Rattle.plan_text.proofs.Answers.{fault-is, text-fits, after-refused, after-fits}
+use borrow.Author.Needs.{needs}
 use Rattle.plan_text.proofs.fmt.Statement.{statement}
 use Rattle.plan_text.proofs.fmt.Tie as tie
 
-bad-names : tie.Need-returns
-bad-names c = let a = c .before .before .before .before .before .before .args in answer-refused (a .plan) (a .names .now) (a .ends .now) (a .out .now) _ _ (c .before .before .check-names .ensures) (c .enum-told .given .1)
+returns : tie.Need-returns
+returns c = let a = c .before .before .before .before .before .before .before .args in (c .before .before .measure .ensures, after-refused (a .plan) (a .names .now) (a .ends .now) (a .out .now) _ ((sym (fault-is _ _ _ _ _ (c .before .before .measure .ensures))) ∙ c .enum-told .given .1))
 
-too-short : tie.Need-returns-2
-too-short c =
-    let a = c .before .before .before .before .before .before .before .before .before .before .before .before .args in
-    let fine = sym (c .before .before .before .before .before .before .before .before .check-names .ensures) ∙ c .before .before .before .before .before .before .enum-told2 .given .1 in
-    answer-short (a .plan) (a .names .now) (a .ends .now) (a .out .now) fine _ _ (c .before .before .before .before .write-plan .ensures) _ (c .before .if1 .taken) (c .refuse .ensures)
+write-plan-requires : tie.Need-write-plan-requires
+write-plan-requires c κs = let a = c .before .before .before .before .before .before .before .before .args in names-fine _ _ _ (text-fits (a .plan) (a .names .now) (a .ends .now) _ ((sym (fault-is _ _ _ _ _ (c .before .before .before .measure .ensures))) ∙ c .before .enum-told2 .given .1) .0)
 
-fits : tie.Need-returns-3
-fits c =
-    let a = c .before .before .before .before .before .before .before .before .before .before .before .before .before .before .before .args in
-    let fine = sym (c .before .before .before .before .before .before .before .before .before .before .before .check-names .ensures) ∙ c .before .before .before .before .before .before .before .before .before .enum-told2 .given .1 in
-    answer-fits (a .plan) (a .names .now) (a .ends .now) (a .out .now) fine _ _ (c .before .before .before .before .before .before .before .write-plan .ensures) _ _ (c .before .before .before .before .if1 .left) (omega arith) (c .before .before .write-plan2 .ensures)
+returns-2 : tie.Need-returns-2
+returns-2 c = let a = c .before .before .before .before .before .before .before .before .before .before .before .args in (c .before .before .before .before .before .before .measure .ensures, after-fits (a .plan) (a .names .now) (a .ends .now) (a .out .now) ((sym (fault-is _ _ _ _ _ (c .before .before .before .before .before .before .measure .ensures))) ∙ c .before .before .before .before .enum-told2 .given .1) _ _ (c .before .before .write-plan .ensures))
 
 pub fmt-spec : {M : Type 1} → statement M
 fmt-spec =
@@ -28,14 +21,9 @@ fmt-spec =
     (tie.spec
     (λ c κs. search needs)
     (λ c. search needs)
-    bad-names
     (λ c. search needs)
+    returns
     (λ c. search needs)
+    write-plan-requires
     (λ c. search needs)
-    (λ c κs. names-fine _ _ _ (sym (c .before .before .before .check-names .ensures) ∙ c .before .enum-told2 .given .1))
-    (λ c κs. search needs)
-    (λ c. search needs)
-    too-short
-    (λ c κs. names-fine _ _ _ (sym (c .before .before .before .before .before .before .before .before .check-names .ensures) ∙ c .before .before .before .before .before .before .enum-told2 .given .1))
-    (λ c. search needs)
-    fits)
+    returns-2)

@@ -1,0 +1,20 @@
+-- `evaluation_fault` meets its contract: the parts are the tables.
+use mathlib.Core.Path.{_∙_}
+use Rattle.opening.proofs.Said.{over-tables}
+use borrow.Author.Needs.{needs}
+use Rattle.opening.proofs.evaluation_fault.Statement.{statement}
+use Rattle.opening.proofs.evaluation_fault.Tie as tie
+
+returns : tie.Need-returns
+returns c = c .fault-over .ensures ∙ over-tables _ _ _ _ _ _ (c .before .before .before .before .before .before .before .find-parts .ensures) (c .before .before .before .items .ensures) (c .before .before .items2 .ensures) (c .before .items3 .ensures)
+
+pub evaluation-fault-spec : {M : Type 1} → statement M
+evaluation-fault-spec =
+    tie.close
+    (tie.spec
+    (λ c κs. search needs)
+    (λ c κs. search needs)
+    (λ c κs. search needs)
+    (λ c κs. search needs)
+    (λ c κs. search needs)
+    returns)

@@ -1,0 +1,236 @@
+// What the program says of a question before any rows (docs/LAYOUT.md, "What it writes"): the plan text and the cost; or the first
+// refusal, or that the numbers are no question, and then no rows follow.
+use asked::MAX_ENDS;
+use plan::Plan;
+use refusal::Verdict;
+ghost use mathlib.Core.Path.{_≡_};
+ghost use mathlib.Core.Bool.{true, false};
+ghost use mathlib.Core.List.{_++_};
+ghost use Prim.Native.Nat.{_-_};
+ghost use lib.ListN.{length};
+ghost use Rattle.refusal.specs.declared.Verdict.the-variants.{Fine};
+ghost use Rattle.plan.specs.Plan.{emptyPlan};
+ghost use Rattle.reply.specs.Lines.{refusalLine, costLine};
+ghost use Rattle.plan_text.specs.Text.{textOf};
+ghost use Rattle.plan_text.specs.Answer.{textFault};
+ghost use Rattle.walk.specs.Steps.{tablesOf};
+ghost use Rattle.eval.specs.Evaluation.{evaluationFault};
+ghost use Rattle.opening.specs.Question.{namesOf, isQuestion, givenEnds, endsOf, tablesIn};
+ghost use Rattle.opening.specs.Opening.{costBytes, refusalText, outside, showingFault, openedWith, openingOf, Line, Opens};
+ghost use Rattle.opening.specs.Opening.{refusal as Opening·refusal};
+
+// Whether rows follow, and of which plan; and how many bytes are written before them.
+pub struct Opening {
+    pub rows: bool,
+    pub plan: Plan,
+    pub length: usize,
+}
+
+// The bytes of names that there is room for.
+pub const NAME_BYTES: usize = 4096;
+
+// The longest cost line.
+const COST_BYTES: usize = 27;
+
+// Write what is said of the numbers of an input to the front of a buffer.
+pub fn open(words: &[u64], out: &mut [u8]) -> Opening
+    ensures { λ r. ⌜ Opens (openingOf (now (words .entry)) (length (now (out .entry)))) (now (out .entry)) r (now (out .exit)) ⌝ }
+{
+    if !is_question(words) {
+        return say_outside(out);
+    }
+    let answer = asked_plan::plan_asked(words);
+    let verdict = answer.verdict;
+    if let Verdict::Refused(_) = verdict {
+        return say_refusal(verdict, out);
+    }
+    let plan = answer.plan;
+    open_planned(words, plan, answer.cost, out)
+}
+
+// Whether the numbers are in the layout, and there is room for the bytes of names.
+fn is_question(words: &[u64]) -> bool
+    ensures { λ r. ⌜ r ≡ isQuestion (now (words .entry)) ⌝ }
+{
+    if !asked::is_inside(words) {
+        return false;
+    }
+    let names = names_in(words);
+    names.len() <= NAME_BYTES
+}
+
+fn names_in(words: &[u64]) -> &[u64]
+    ensures { λ r. ⌜ now r ≡ namesOf (now (words .entry)) ⌝ }
+{
+    let parts = asked::find_parts(words);
+    let part = parts.names;
+    asked::items(words, part.at, part.length)
+}
+
+fn ends_in(words: &[u64]) -> &[u64]
+    ensures { λ r. ⌜ now r ≡ givenEnds (now (words .entry)) ⌝ }
+{
+    let parts = asked::find_parts(words);
+    let part = parts.ends;
+    asked::items(words, part.at, part.length)
+}
+
+// One line, and no rows.
+fn say_outside(out: &mut [u8]) -> Opening
+    ensures { λ r. ⌜ Opens outside (now (out .entry)) r (now (out .exit)) ⌝ }
+{
+    let length = pieces::write(b"outside the layout\n", 0, out);
+    only(length)
+}
+
+fn say_refusal(verdict: Verdict, out: &mut [u8]) -> Opening
+    ensures { λ r. ⌜ Opens (Opening·refusal verdict) (now (out .entry)) r (now (out .exit)) ⌝ }
+{
+    let length = write_verdict(verdict, out);
+    only(length)
+}
+
+fn only(length: usize) -> Opening
+    ensures { λ r. ⌜ r ≡ record { rows = false; plan = emptyPlan; length = length } ⌝ }
+{
+    let plan = Plan::empty();
+    Opening {
+        rows: false,
+        plan,
+        length,
+    }
+}
+
+fn write_verdict(verdict: Verdict, out: &mut [u8]) -> usize
+    ensures { λ r. ⌜ Line (refusalText verdict) (now (out .entry)) r (now (out .exit)) ⌝ }
+{
+    match verdict {
+        Verdict::Fine => 0,
+        Verdict::Refused(r) => write_refusal(r.number, r.place, out),
+    }
+}
+
+fn write_refusal(number: u8, place: usize, out: &mut [u8]) -> usize
+    ensures { λ r. ⌜ Line (refusalLine number place) (now (out .entry)) r (now (out .exit)) ⌝ }
+{
+    reply::write_refusal(number, place, 0, out)
+}
+
+// Of a question that was planned: its names are read.
+fn open_planned(words: &[u64], plan: Plan, cost: u64, out: &mut [u8]) -> Opening
+    requires { ⌜ isQuestion (now words) ≡ true ⌝ }
+    ensures { λ r. ⌜ Opens (openedWith (now (words .entry)) plan cost (namesOf (now (words .entry))) (endsOf (now (words .entry)) (plan .«slot_count»)) (length (now (out .entry)))) (now (out .entry)) r (now (out .exit)) ⌝ }
+{
+    let mut names = [0u8; NAME_BYTES];
+    let given = names_in(words);
+    let count = given.len();
+    asked::read_bytes(given, &mut names);
+    open_named(words, plan, cost, &names[..count], out)
+}
+
+// And then their ends. The buffer has room for one more than a plan has slots: more are too many either way.
+fn open_named(words: &[u64], plan: Plan, cost: u64, names: &[u8], out: &mut [u8]) -> Opening
+    ensures { λ r. ⌜ Opens (openedWith (now (words .entry)) plan cost (now (names .entry)) (endsOf (now (words .entry)) (plan .«slot_count»)) (length (now (out .entry)))) (now (out .entry)) r (now (out .exit)) ⌝ }
+{
+    let mut ends = [0usize; MAX_ENDS];
+    let given = ends_in(words);
+    asked::read_ends(given, &mut ends);
+    let constants = constants_of(plan.slot_count, asked::word_at(words, asked::VARIABLES));
+    let count = asked::count_ends(given.len(), constants, MAX_ENDS);
+    open_with(words, plan, cost, names, &ends[..count], out)
+}
+
+// The slots past the variables are constants.
+fn constants_of(slots: usize, variables: u64) -> usize
+    ensures { λ r. ⌜ r ≡ slots - variables ⌝ }
+{
+    let slots = slots as u64;
+    if slots < variables {
+        return 0;
+    }
+    (slots - variables) as usize
+}
+
+// With names and ends: a refusal, or the plan text and the cost.
+fn open_with(
+    words: &[u64],
+    plan: Plan,
+    cost: u64,
+    names: &[u8],
+    ends: &[usize],
+    out: &mut [u8],
+) -> Opening
+    ensures { λ r. ⌜ Opens (openedWith (now (words .entry)) plan cost (now (names .entry)) (now (ends .entry)) (length (now (out .entry)))) (now (out .entry)) r (now (out .exit)) ⌝ }
+{
+    let verdict = showing_fault(words, plan, names, ends, out);
+    if let Verdict::Refused(_) = verdict {
+        return say_refusal(verdict, out);
+    }
+    let length = write_opening(plan, cost, names, ends, out);
+    Opening {
+        rows: true,
+        plan,
+        length,
+    }
+}
+
+// The text's refusal comes before that of evaluation.
+fn showing_fault(words: &[u64], plan: Plan, names: &[u8], ends: &[usize], out: &[u8]) -> Verdict
+    ensures { λ r. ⌜ r ≡ showingFault (now (words .entry)) plan (now (names .entry)) (now (ends .entry)) (length (now (out .entry))) ⌝ }
+{
+    let verdict = text_fault(plan, names, ends, out);
+    if let Verdict::Refused(_) = verdict {
+        return verdict;
+    }
+    evaluation_fault(words, plan)
+}
+
+// The text has what is left of the buffer beside the cost line.
+fn text_fault(plan: Plan, names: &[u8], ends: &[usize], out: &[u8]) -> Verdict
+    ensures { λ r. ⌜ r ≡ textFault plan (now (names .entry)) (now (ends .entry)) (length (now (out .entry)) - costBytes) ⌝ }
+{
+    let room = beside_cost(out.len());
+    let measured = plan_text::measure(plan, names, ends, &out[..room]);
+    measured.verdict
+}
+
+fn beside_cost(length: usize) -> usize
+    ensures { λ r. ⌜ r ≡ length - costBytes ⌝ }
+{
+    if length < COST_BYTES {
+        return 0;
+    }
+    length - COST_BYTES
+}
+
+fn evaluation_fault(words: &[u64], plan: Plan) -> Verdict
+    ensures { λ r. ⌜ r ≡ evaluationFault plan (tablesIn (now (words .entry))) ⌝ }
+{
+    let parts = asked::find_parts(words);
+    let aevt = parts.aevt;
+    let avet = parts.avet;
+    let eavt = parts.eavt;
+    fault_over(
+        plan,
+        asked::items(words, aevt.at, aevt.length),
+        asked::items(words, avet.at, avet.length),
+        asked::items(words, eavt.at, eavt.length),
+    )
+}
+
+// Evaluated for no rows.
+fn fault_over<'a>(plan: Plan, aevt: &'a [u64], avet: &'a [u64], eavt: &'a [u64]) -> Verdict
+    ensures { λ r. ⌜ r ≡ evaluationFault plan (tablesOf (now (aevt .entry)) (now (avet .entry)) (now (eavt .entry))) ⌝ }
+{
+    let mut none = [0u64; 0];
+    let evaluated = eval::evaluate(plan, aevt, avet, eavt, 0, &mut none);
+    evaluated.verdict
+}
+
+fn write_opening(plan: Plan, cost: u64, names: &[u8], ends: &[usize], out: &mut [u8]) -> usize
+    requires { ⌜ textFault plan (now names) (now ends) (length (now out) - costBytes) ≡ Fine ⌝ }
+    ensures { λ r. ⌜ Line (textOf plan (now (names .entry)) (now (ends .entry)) ++ costLine cost) (now (out .entry)) r (now (out .exit)) ⌝ }
+{
+    let formatted = plan_text::fmt(plan, names, ends, out);
+    reply::write_cost(cost, formatted.length, out)
+}

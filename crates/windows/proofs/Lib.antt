@@ -1,0 +1,6 @@
+pub mod Wide
+pub mod InFront
+pub mod Stepped
+pub mod Shown
+pub mod Joined
+pub mod OneAnswer

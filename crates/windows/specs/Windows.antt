@@ -1,0 +1,87 @@
+-- docs/LAYOUT.md, "What it writes": the rows, window by window, and whether more follow.
+use mathlib.Core.Path.{_≡_}
+use Prim.Native.Nat.{ℕ, _+_, _-_, _*_, _/_, _≤_, min}
+use mathlib.Core.Bool.{Bool, true, false, cond, not, _||_}
+use mathlib.Core.List.{List, [], _++_}
+use lib.ListN.{length, take, drop}
+use lib.Dec.{leb, ltb, eqb}
+use Rattle.refusal.specs.Verdict.{unless}
+use Rattle.plan.specs.declared.Plan.{Plan}
+use Rattle.pieces.specs.Ascii.{ascii}
+use Rattle.pieces.specs.Written.{largest, Written}
+use Rattle.reply.specs.Lines.{rowLines}
+use Rattle.tables.specs.Rows.{flat}
+use Rattle.visits.specs.Visits.{Tables, rowList}
+use Rattle.visits.specs.Window.{filled}
+use Rattle.eval.specs.Evaluation.{evaluationFault}
+use Rattle.windows.specs.declared.Step.{Step}
+use Rattle.windows.specs.declared.Window.{Window}
+
+-- the rows of a plan over tables; none where evaluation is refused
+unfoldable pub rowsOf : Plan → Tables → List (List ℕ)
+rowsOf p ts = unless (evaluationFault p ts) (λ _. []) (rowList p ts)
+
+-- the lines of rows of so many words
+unfoldable pub linesOf : ℕ → List (List ℕ) → List ℕ
+linesOf width rows = rowLines width width (flat rows)
+
+-- the line after the last row says whether the row list goes on
+unfoldable pub lastLine : Bool → List ℕ
+lastLine more = cond more (ascii "more follow\n") (ascii "none follows\n")
+
+-- all that is written of the rows from number `from` on, of which at most `left` are shown
+unfoldable pub rowsText : Plan → Tables → ℕ → ℕ → List ℕ
+rowsText p ts from left =
+    linesOf (p .«select_count») (take left (drop from (rowsOf p ts))) ++ lastLine (ltb left (length (drop from (rowsOf p ts))))
+
+-- a window shows as many of these rows as a buffer of so many words has room for
+unfoldable pub shownOf : Plan → Tables → ℕ → ℕ → ℕ → List (List ℕ)
+shownOf p ts from left room = take (min left (room / p .«select_count»)) (drop from (rowsOf p ts))
+
+-- the row list goes on after them
+unfoldable pub moreOf : Plan → Tables → ℕ → ℕ → ℕ → Bool
+moreOf p ts from left room = ltb (length (shownOf p ts from left room)) (length (drop from (rowsOf p ts)))
+
+-- it is the last window where the row list does not go on, where all that were to be shown are shown, where no row fits, or where the
+-- next row's number would pass 2^64 - 1
+unfoldable pub isLast : Bool → ℕ → ℕ → ℕ → Bool
+isLast more count from left = not more || (leb left count || (eqb count 0 || ltb (largest - from) count))
+
+-- the next window begins after the rows shown; after the last there is none
+unfoldable pub stepOf : Bool → ℕ → ℕ → ℕ → Step
+stepOf more count from left =
+    cond (isLast more count from left) (record { last = true; from = from; left = left }) (record { last = false; from = from + count; left = left - count })
+
+abbrev pub windowStep : Plan → Tables → ℕ → ℕ → ℕ → Step
+windowStep p ts from left room = stepOf (moreOf p ts from left room) (length (shownOf p ts from left room)) from left
+
+-- the last line stands after the last window
+abbrev pub endText : Bool → Bool → List ℕ
+endText last more = cond last (lastLine more) []
+
+-- what is written of a window
+unfoldable pub windowText : Plan → Tables → ℕ → ℕ → ℕ → List ℕ
+windowText p ts from left room =
+    linesOf (p .«select_count») (shownOf p ts from left room) ++ endText (windowStep p ts from left room .last) (moreOf p ts from left room)
+
+-- the longest text of a word, its digits and a space; and of the last line
+abbrev pub wordBytes : ℕ
+wordBytes = 21
+
+abbrev pub lastBytes : ℕ
+lastBytes = 13
+
+-- rows lie in front of the buffer for them: how many, and whether the row list goes on
+pub record Fills (p : Plan) (ts : Tables) (from left : ℕ) (rows : List ℕ) (count : ℕ) (more : Bool) (rows′ : List ℕ) : Type 0 where
+  pub count-is : count ≡ length (shownOf p ts from left (length rows))
+  pub more-is : more ≡ moreOf p ts from left (length rows)
+  pub rows-are : rows′ ≡ filled (shownOf p ts from left (length rows)) rows
+  pub words-fit : count * p .«select_count» ≤ length rows
+  pub words-are : take (count * p .«select_count») rows′ ≡ flat (shownOf p ts from left (length rows))
+
+-- a window is shown: how the next begins, and the two buffers after it. Its text lies within a buffer that has room for so many words
+pub record Shows (p : Plan) (ts : Tables) (from left : ℕ) (rows out : List ℕ) (r : Window) (rows′ out′ : List ℕ) : Type 0 where
+  pub step-is : _≡_ {A = Step} (record { last = r .last; from = r .from; left = r .left }) (windowStep p ts from left (length rows))
+  pub rows-are : rows′ ≡ filled (shownOf p ts from left (length rows)) rows
+  pub is-written : Written (windowText p ts from left (length rows)) 0 out (r .length) out′
+  pub fits : wordBytes * length rows + lastBytes ≤ length out → r .length ≤ length out
