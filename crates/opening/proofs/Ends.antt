@@ -48,7 +48,7 @@ module _ (given : List ℕ) (constants : ℕ) where
 
   all-long : length (endsWith given constants) ≡ length given + constants
   unfolding endsWith
-  all-long = length-append given (replicate constants last) ∙ ap (λ (k : ℕ). length given + k) (length-replicate constants last)
+  all-long = length-append given _ ∙ ap (λ (k : ℕ). length given + k) (length-replicate constants _)
 
   past-given : (i : ℕ) → length given ≤ i → i < length given + constants → getD (endsWith given constants) i 0 ≡ endOf given i
   unfolding endsWith
@@ -60,7 +60,7 @@ module _ (given : List ℕ) (constants : ℕ) where
 
   among-given : (i : ℕ) → i < length given → getD (endsWith given constants) i 0 ≡ endOf given i
   unfolding endsWith
-  among-given i h = List·getD-append given (replicate constants last) 0 i h ∙ end-given given i h
+  among-given i h = List·getD-append given _ 0 i h ∙ end-given given i h
 
   end-at : (i : ℕ) → i < length given + constants → getD (endsWith given constants) i 0 ≡ endOf given i
   end-at i h =
