@@ -51,7 +51,7 @@ pub fn case(kind: u64, numbers: &str) -> String {
 
 // What `replay` writes for cases.
 pub fn written(input: &str) -> String {
-    let mut child = Command::new("target/bin/replay").stdin(Stdio::piped()).stdout(Stdio::piped()).spawn().unwrap();
+    let mut child = Command::new("./run_x86").arg("target/bin/replay").stdin(Stdio::piped()).stdout(Stdio::piped()).spawn().unwrap();
     child.stdin.take().unwrap().write_all(input.as_bytes()).unwrap();
     let output = child.wait_with_output().unwrap();
     assert!(output.status.success());

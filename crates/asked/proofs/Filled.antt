@@ -1,17 +1,16 @@
 -- Laws of what is read into arrays and buffers, one element on.
-use mathlib.Core.Path.{_≡_, refl, sym, ap, _∙_}
+use mathlib.Core.Path.{_≡_, ap}
 use mathlib.Core.Bool.{true, false}
-use mathlib.Core.List.{List, [], _∷_, _++_}
-use Prim.Native.Nat.{ℕ, zero, suc, _+_, _-_, _*_, _≤_, _<_, min}
+use mathlib.Core.List.{List, _++_}
+use Prim.Native.Nat.{ℕ, suc, _+_, _-_, _*_, _≤_, _<_, min}
 use native.Mathlib.Numerals.{add-one}
 use native.Mathlib.Omega.{arith}
-use lib.ListN.{length, take, drop, set, getD, replicate, length-append}
-use lib.Seq.{take-suc-set, paste-suc}
+use lib.ListN.{length, take, drop, set, getD}
+use lib.Seq.{paste-suc}
 use borrow.Author.Tests.{lt-leb, le-leb, lt-ltb, le-ltb, eq-eqb, ne-eqb}
 use Rattle.capacity.specs.Capacity.{maxStatements, maxSelects}
 use Rattle.lists.specs.Padded.{padded}
 use Rattle.lists.specs.Tabled.{tabled}
-use Rattle.lists.proofs.Padded.{padded-more, padded-none}
 use Rattle.query.specs.declared.Var.{Var}
 use Rattle.query.specs.declared.QueryValue.{QueryValue}
 use Rattle.query.specs.declared.QueryValue.the-variants.{Const, Var as Variable}
@@ -22,7 +21,7 @@ use Rattle.query.specs.declared.Query.{Query}
 use Rattle.query.specs.Query.{largest, zeroVar, zeroStatement}
 use Rattle.asked.specs.declared.Parts.{Parts}
 use Rattle.asked.specs.Parts.{partsOf, itemsOf, areBytes}
-use Rattle.asked.specs.Asked.{varOf, valueOf, statementOf, statementsOf, selectsOf, queryOf, bytesFit, bytesAfter, endOf, endsCount}
+use Rattle.asked.specs.Asked.{varOf, valueOf, statementOf, statementsOf, selectsOf, queryOf, bytesFit, bytesAfter, endOf}
 
 pub var-past : (n : ℕ) → largest < n → record { 0 = largest } ≡ varOf n
 unfolding varOf

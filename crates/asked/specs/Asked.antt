@@ -1,8 +1,8 @@
 -- docs/LAYOUT.md, "What the numbers say": the query, and the names.
-use Prim.Native.Nat.{ℕ, zero, suc, _+_, _-_, _*_, min}
+use Prim.Native.Nat.{ℕ, _+_, _-_, _*_, min}
 use mathlib.Core.Bool.{Bool, cond, _&&_}
-use mathlib.Core.List.{List, [], _∷_, _++_}
-use lib.ListN.{length, take, drop, getD}
+use mathlib.Core.List.{List, _++_}
+use lib.ListN.{length, drop, getD}
 use lib.Dec.{leb, ltb, eqb}
 use Rattle.capacity.specs.Capacity.{maxStatements, maxSelects}
 use Rattle.lists.specs.Padded.{padded}

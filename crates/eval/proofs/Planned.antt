@@ -1,6 +1,6 @@
 -- Evaluation stands above planning and sees only what planning promises: every plan listed for a query that is accepted passes the check
 -- (crate planned), and so of a query with a statement evaluation refuses none of its plans, but for what is wrong with the tables.
-use mathlib.Core.Path.{_≡_, ap, _∙_}
+use mathlib.Core.Path.{_≡_, ap}
 use mathlib.Core.List.{[]}
 use Prim.Native.Nat.{ℕ, _<_}
 use lib.ListN.{length, getD}

@@ -13,7 +13,7 @@ use Rattle.query.specs.Query.{statementsOf, zeroStatement}
 use Rattle.plan.specs.declared.Scan.{Scan}
 use Rattle.plan.specs.Plan.{countsFault, flowsFault}
 use Rattle.plan_check.specs.Check.{checkOf}
-use Rattle.cost.specs.Cost.{weight, costOf}
+use Rattle.cost.specs.Cost.{costOf}
 use Rattle.planner.proofs.Statements.{length-scans}
 use Rattle.listing.proofs.SameAccesses.{same-length}
 use Rattle.listing.proofs.Passes.{same-listed}

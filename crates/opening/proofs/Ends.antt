@@ -4,7 +4,7 @@ use mathlib.Core.Logic.{⊎-elim}
 use mathlib.Core.Bool.{false}
 use mathlib.Core.List.{List, [], _∷_, _++_}
 use Prim.Native.Nat.{ℕ, zero, suc, _+_, _-_, _≤_, _<_, min}
-use native.Mathlib.Nat.{eq-or-lt-of-le, min-le-left, not-suc-le-zero, le-of-lt}
+use native.Mathlib.Nat.{eq-or-lt-of-le, min-le-left}
 use native.Mathlib.Omega.{arith}
 use lib.Dec.{eqb}
 use borrow.Author.Tests.{ne-eqb}
@@ -24,7 +24,7 @@ use Rattle.plan_text.specs.Answer.{textFault}
 use Rattle.asked.specs.Asked.{endOf, endsAfter, endsCount}
 use Rattle.asked.proofs.Filled.{end-given, end-none, end-last}
 use Rattle.opening.specs.Question.{givenEnds, endsWith, endsOf}
-use Rattle.opening.specs.Opening.{Said, refusal, showingFault, openedWith}
+use Rattle.opening.specs.Opening.{refusal, showingFault, openedWith}
 
 -- the first of a list by its places
 take-tabled-more : (f : ℕ → ℕ) (n m : ℕ) → n ≤ m → take n (tabled f (suc m)) ≡ take n (tabled f m)

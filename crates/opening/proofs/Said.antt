@@ -6,12 +6,12 @@ use Prim.Native.Nat.{ℕ, _+_, _-_, _≤_, _<_, _^_}
 use native.Mathlib.Omega.{arith}
 use borrow.Author.Tests.{leb-true, le-ltb}
 use lib.ListN.{length, take, drop, getD, replicate, length-append, length-replicate}
-use lib.Seq.{sets, sets-eq, take-append-seam}
-use lib.Dec.{leb, ltb}
+use lib.Seq.{sets-eq, take-append-seam}
+use lib.Dec.{leb}
 use Rattle.refusal.specs.declared.Refusal.{Refusal}
 use Rattle.refusal.specs.declared.Verdict.{Verdict}
 use Rattle.refusal.specs.declared.Verdict.the-variants.{Fine, Refused}
-use Rattle.refusal.specs.Verdict.{refuseIf, orElse, unless}
+use Rattle.refusal.specs.Verdict.{unless}
 use Rattle.refusal.proofs.Fine.{or-fine}
 use Rattle.plan.specs.declared.Plan.{Plan}
 use Rattle.plan.specs.Plan.{emptyPlan}
@@ -23,7 +23,6 @@ use Rattle.plan_text.specs.declared.Formatted.{Formatted}
 use Rattle.plan_text.specs.Text.{textOf}
 use Rattle.plan_text.specs.Answer.{textFault, formattedOf, bufferAfter}
 use Rattle.plan_text.proofs.Answers.{text-fits}
-use Rattle.plan_names.specs.Names.{namesFault}
 use Rattle.visits.specs.Visits.{Tables}
 use Rattle.eval.specs.declared.Evaluated.{Evaluated}
 use Rattle.eval.specs.Evaluation.{evaluationFault, evaluateOf}
@@ -36,7 +35,7 @@ use Rattle.asked_plan.specs.declared.Answer.{Answer}
 use Rattle.asked_plan.specs.Answer.{answerOf}
 use Rattle.opening.specs.declared.Opening.{Opening}
 use Rattle.opening.specs.Question.{nameBytes, namesOf, isQuestion, endsOf, tablesIn}
-use Rattle.opening.specs.Opening.{costBytes, lineBytes, Said, only, outside, refusal, showingFault, openedWith, opened, openingOf, Line, Opens}
+use Rattle.opening.specs.Opening.{costBytes, Said, only, outside, refusal, showingFault, openedWith, opened, openingOf, Line, Opens}
 
 both-true : (p q : Bool) → p && q ≡ true → (p ≡ true) × (q ≡ true)
 both-true true q h = (refl, h)

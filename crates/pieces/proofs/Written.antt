@@ -8,7 +8,7 @@ use native.Mathlib.Numerals.{add-one}
 use native.Mathlib.Omega.{arith}
 use lib.ListN.{length, take, drop, set, getD, length-append, take-append-drop, drop-of-length-le}
 use lib.Seq.{sets, length-sets, set-out, take-suc, length-take-le}
-use Rattle.pieces.specs.Written.{largest, after, Written}
+use Rattle.pieces.specs.Written.{largest, Written}
 
 -- one piece after the other
 pub sets-append : (p q l : List ℕ) (i : ℕ) → sets l i (p ++ q) ≡ sets (sets l i p) (i + length p) q

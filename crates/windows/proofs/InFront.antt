@@ -1,13 +1,13 @@
 -- The rows of a window lie in front of the buffer that was lent for them.
 use mathlib.Core.Path.{_≡_, refl, sym, ap, _∙_}
-use mathlib.Core.Bool.{Bool, true, false}
-use mathlib.Core.List.{List, [], _∷_, _++_, map, append-assoc}
-use Prim.Native.Nat.{ℕ, zero, suc, _+_, _*_, _-_, _/_, _≤_, _<_, min}
+use mathlib.Core.Bool.{false}
+use mathlib.Core.List.{List, [], _++_, append-assoc}
+use Prim.Native.Nat.{ℕ, _+_, _*_, _-_, _/_, _≤_, _<_, min}
 use native.Mathlib.Nat.{div-mul-le-self, mul-div-cancel, mul-le-mul-right, min-le-right, eq-or-lt-of-le}
 use mathlib.Core.Logic.{⊎-elim}
 use native.Mathlib.Omega.{arith}
 use borrow.Author.Tests.{lt-ltb, le-ltb}
-use lib.ListN.{length, take, drop, length-append, length-take, length-drop, length-map, take-append-drop, drop-of-length-le}
+use lib.ListN.{length, take, drop, length-take, length-map, take-append-drop, drop-of-length-le}
 use lib.Seq.{length-take-le, drop-append-le, take-at, take-nil}
 use lib.Dec.{ltb}
 use Rattle.capacity.specs.Capacity.{maxSelects}

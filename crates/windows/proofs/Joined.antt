@@ -3,7 +3,7 @@ use mathlib.Core.Path.{_≡_, refl, sym, ap, _∙_}
 use mathlib.Core.Logic.{⊎-elim}
 use mathlib.Core.Bool.{Bool, true, false, cond, false≢true}
 use mathlib.Core.List.{List, [], _++_, append-nil, append-assoc}
-use Prim.Native.Nat.{ℕ, suc, _+_, _*_, _-_, _/_, _≤_, _<_, min}
+use Prim.Native.Nat.{ℕ, _+_, _-_, _/_, _≤_, _<_, min}
 use native.Mathlib.Nat.{eq-or-lt-of-le, min-le-right, le-div-iff-mul-le}
 use native.Mathlib.Omega.{arith}
 use borrow.Author.Tests.{lt-ltb, le-ltb, lt-leb, ne-eqb, ltb-true}
@@ -17,7 +17,7 @@ use Rattle.pieces.specs.Written.{largest}
 use Rattle.visits.specs.Visits.{Tables}
 use Rattle.eval.specs.Evaluation.{evaluationFault}
 use Rattle.windows.specs.declared.Step.{Step}
-use Rattle.windows.specs.Windows.{rowsOf, linesOf, lastLine, rowsText, shownOf, moreOf, isLast, stepOf, windowStep, endText, windowText}
+use Rattle.windows.specs.Windows.{rowsOf, linesOf, lastLine, rowsText, shownOf, moreOf, isLast, windowStep, windowText}
 use Rattle.windows.proofs.Wide.{wide-take, wide-drop, lines-append}
 use Rattle.windows.proofs.InFront.{passed, rows-wide}
 use Rattle.windows.proofs.Stepped.{Goes, goes, step-last, step-on}

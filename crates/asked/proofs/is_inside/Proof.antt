@@ -1,5 +1,5 @@
 -- `is_inside` meets its contract, test by test.
-use mathlib.Core.Path.{_≡_, sym, _∙_}
+use mathlib.Core.Path.{sym, _∙_}
 use borrow.Author.Tests.{not-true, not-false}
 use Rattle.asked.proofs.Found.{outside-parts, outside-more, outside-task, outside-kinds, inside-bytes}
 use borrow.Author.Needs.{needs}

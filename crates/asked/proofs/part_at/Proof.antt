@@ -1,5 +1,5 @@
 -- `part_at` meets its contract: a part is there where its count and all its items are.
-use mathlib.Core.Path.{sym, _∙_}
+use mathlib.Core.Path.{_∙_}
 use native.Mathlib.Omega.{arith}
 use Rattle.asked.proofs.Found.{part-past, part-short, part-fits, part-there}
 use borrow.Author.Needs.{needs}

@@ -1,13 +1,13 @@
 -- `read_selects` meets its contract: the first i selects are read.
-use mathlib.Core.Path.{_≡_, refl, sym, _∙_}
-use Prim.Native.Nat.{_≤_, _-_, min}
+use mathlib.Core.Path.{_≡_}
+use Prim.Native.Nat.{_≤_, _-_}
 use native.Mathlib.Omega.{arith}
-use lib.ListN.{length, getD}
+use lib.ListN.{getD}
 use Rattle.capacity.specs.Capacity.{maxSelects}
 use Rattle.lists.specs.Padded.{padded}
 use Rattle.query.specs.Query.{zeroVar}
 use Rattle.lists.specs.Tabled.{tabled}
-use Rattle.asked.specs.Asked.{statementOf, varOf}
+use Rattle.asked.specs.Asked.{varOf}
 use Rattle.lists.proofs.Tabled.{tabled-padded-more, tabled-padded-none}
 use Rattle.asked.proofs.Filled.{selects-are}
 use borrow.Author.Needs.{needs}

@@ -1,13 +1,12 @@
 -- `read_statements` meets its contract: the first i statements are read.
-use mathlib.Core.Path.{_≡_, refl, sym, _∙_}
-use Prim.Native.Nat.{_≤_, _-_, min}
+use mathlib.Core.Path.{_≡_}
+use Prim.Native.Nat.{_≤_, _-_}
 use native.Mathlib.Omega.{arith}
-use lib.ListN.{length, getD}
 use Rattle.capacity.specs.Capacity.{maxStatements}
 use Rattle.lists.specs.Padded.{padded}
 use Rattle.query.specs.Query.{zeroStatement}
 use Rattle.lists.specs.Tabled.{tabled}
-use Rattle.asked.specs.Asked.{statementOf, varOf}
+use Rattle.asked.specs.Asked.{statementOf}
 use Rattle.lists.proofs.Tabled.{tabled-padded-more, tabled-padded-none}
 use Rattle.asked.proofs.Filled.{statements-are}
 use borrow.Author.Needs.{needs}

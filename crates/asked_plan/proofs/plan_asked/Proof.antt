@@ -1,5 +1,5 @@
 -- `plan_asked` meets its contract: planning is refused, or the plan has its cost.
-use mathlib.Core.Path.{sym, _∙_}
+use mathlib.Core.Path.{_∙_}
 use Rattle.asked_plan.proofs.Cases.{answer-refused, answer-fine}
 use borrow.Author.Needs.{needs}
 use Rattle.asked_plan.proofs.plan_asked.Statement.{statement}

@@ -1,5 +1,5 @@
 -- `with_cost` meets its contract: the cost is refused, or it is not.
-use mathlib.Core.Path.{sym, _∙_}
+use mathlib.Core.Path.{_∙_}
 use Rattle.asked_plan.proofs.Cases.{costed-refused, costed-fine}
 use borrow.Author.Needs.{needs}
 use Rattle.asked_plan.proofs.with_cost.Statement.{statement}

@@ -1,5 +1,4 @@
 -- `either` meets its contract.
-use borrow.Author.Needs.{needs}
 use Rattle.cost.proofs.either.Statement.{statement}
 use Rattle.cost.proofs.either.Tie as tie
 

@@ -1,6 +1,5 @@
 -- `digit_value` meets its contract.
 use borrow.Author.Needs.{needs}
-use native.Mathlib.Omega.{arith}
 use Rattle.layout.proofs.Bytes.{digit-least}
 use Rattle.layout.proofs.digit_value.Statement.{statement}
 use Rattle.layout.proofs.digit_value.Tie as tie

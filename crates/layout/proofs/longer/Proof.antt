@@ -1,6 +1,5 @@
 -- `longer` meets its contract.
 use borrow.Author.Needs.{needs}
-use native.Mathlib.Omega.{arith}
 use Rattle.layout.proofs.Bytes.{goes-digit, goes-fits}
 use Rattle.layout.proofs.longer.Statement.{statement}
 use Rattle.layout.proofs.longer.Tie as tie

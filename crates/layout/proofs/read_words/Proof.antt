@@ -1,12 +1,11 @@
 -- `read_words` meets its contract: the numbers so far stand in front of the buffer, and what is left of the text says the rest.
-use mathlib.Core.Path.{_≡_, refl, sym, _∙_}
-use mathlib.Core.List.{List, [], _∷_, _++_}
-use Prim.Native.Nat.{ℕ, _≤_, _-_}
+use mathlib.Core.Path.{_∙_}
+use Prim.Native.Nat.{_-_}
 use native.Mathlib.Omega.{arith}
 use borrow.Author.Needs.{needs}
 use borrow.Author.Tests.{not-true, not-false}
-use lib.ListN.{length, drop, take}
-use Rattle.layout.specs.Words.{said, before}
+use lib.ListN.{length}
+use Rattle.layout.specs.Words.{before}
 use Rattle.layout.proofs.Saying.{said-end}
 use Rattle.layout.proofs.Reading.{SoFar, none-yet, so-far-ends, so-far-leaves, so-far-full, so-far-more}
 use Rattle.layout.proofs.read_words.Statement.{statement}
