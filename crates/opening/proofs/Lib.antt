@@ -1,3 +1,4 @@
 pub mod Ends
 pub mod Said
 pub mod OneAnswer
+pub mod Nothing

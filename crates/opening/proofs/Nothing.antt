@@ -1,0 +1,11 @@
+-- No numbers are no question: a text outside the layout, of which none are read, gets the fixed line.
+use mathlib.Core.Path.{_≡_, refl}
+use Prim.Native.Nat.{ℕ}
+use mathlib.Core.List.{[]}
+use Rattle.asked.specs.Parts.{partAt, partsOf, insideOf}
+use Rattle.opening.specs.Question.{isQuestion}
+use Rattle.opening.specs.Opening.{outside, openingOf}
+
+pub nothing-outside : (room : ℕ) → openingOf [] room ≡ outside
+unfolding openingOf isQuestion insideOf partsOf partAt
+nothing-outside room = refl
