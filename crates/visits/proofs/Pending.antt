@@ -2,7 +2,7 @@
 -- cut where the iterators stand, and a step of scan i takes its first visit away.
 use mathlib.Core.Path.{_≡_, refl, sym, ap, _∙_}
 use mathlib.Core.Logic.{⊎-elim}
-use mathlib.Core.List.{List, [], _∷_, _++_, map}
+use mathlib.Core.List.{List, [], _∷_}
 use Prim.Native.Nat.{ℕ, zero, suc, _+_, _*_, _-_, _≤_, _<_}
 use native.Mathlib.Omega.{arith}
 use native.Mathlib.Nat.{eq-or-lt-of-le, le-of-suc-le-suc}
@@ -14,7 +14,7 @@ use Rattle.plan.specs.declared.Scan.{Scan}
 use Rattle.plan.specs.Plan.{zeroScan}
 use Rattle.visits.specs.Visits.{Tables, visited, standing, visits, slotsAt}
 use Rattle.visits.specs.Sound.{Sound, Agree}
-use Rattle.visits.specs.Pending.{further, extend, iterWords, position, ending, current, currentSlots, pending}
+use Rattle.visits.specs.Pending.{extend, iterWords, position, ending, current, currentSlots, pending}
 use Rattle.visits.proofs.Nested.{visits-snoc, slotsAt-snoc}
 use Rattle.visits.proofs.Slots.{standing-back, standing-length}
 

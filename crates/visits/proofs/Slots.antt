@@ -3,16 +3,16 @@
 use mathlib.Core.Path.{_≡_, refl, ap, _∙_}
 use mathlib.Core.Bool.{false}
 use mathlib.Core.List.{List, _∷_}
-use Prim.Native.Nat.{ℕ, suc, _+_, _<_}
-use lib.ListN.{length, getD, take, drop}
+use Prim.Native.Nat.{ℕ, _+_}
+use lib.ListN.{length, getD, take}
 use Rattle.tables.specs.Rows.{row, matching}
 use Rattle.plan.specs.declared.Scan.{Scan}
 use Rattle.plan.specs.declared.Index.{Index}
 use Rattle.plan.specs.declared.Index.the-variants.{Aevt, Avet, Eavt}
 use Rattle.plan.specs.declared.Flow.{Flow}
 use Rattle.plan.specs.declared.Flow.the-variants.{OutOut, InOut, InIn}
-use Rattle.plan.specs.declared.Access.the-variants.{Reads, Writes}
-use Rattle.plan.specs.Plan.{inOrder, firstSlot, secondSlot, firstAccess, secondAccess, outOutEavt, zeroScan}
+use Rattle.plan.specs.declared.Access.the-variants.{Reads}
+use Rattle.plan.specs.Plan.{inOrder, firstSlot, secondSlot, firstAccess, secondAccess, outOutEavt}
 use Rattle.plan_check.specs.Check.{written as isWritten}
 use Rattle.visits.specs.Visits.{Tables, tableOf, rowFor, inputs, wanted, visited, standing}
 use Rattle.lists.proofs.Tests.{neither}
