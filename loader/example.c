@@ -1,5 +1,6 @@
 /* Which heater has its level switch bridged? Plans the question, prints the plan's text and cost, and evaluates it, a row at a
-   time; then lists the orders in which the heaters may be tried. Attribute 1: a heater's level switch. Attribute 2: a switch's state, 9 is bridged. */
+   time; then lists the orders in which the heaters may be tried. Attribute 1: a heater's level switch. Attribute 2: a switch's
+   state, 9 is bridged. */
 #include "loader.h"
 #include <stdio.h>
 
