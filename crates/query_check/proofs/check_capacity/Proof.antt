@@ -6,7 +6,7 @@ use borrow.Author.Tests.{lt-ltb, le-ltb, eq-eqb, ne-eqb, not-true, not-false}
 use lib.ListN.{take}
 use lib.Dec.{ltb}
 use Prim.Native.Nat.{_+_}
-use Rattle.capacity.specs.Capacity.{maxSlots}
+use Rattle.capacity.specs.Capacity.{maxStatements, maxSlots}
 use Rattle.query_check.specs.Refusals.{constants, capacityFault}
 use Rattle.query_check.proofs.check_capacity.Statement.{statement}
 use Rattle.query_check.proofs.check_capacity.Tie as tie
@@ -19,7 +19,7 @@ room c t e = sym (Bool·not-not _) ∙ ap not (sym (rw (c .before .count-constan
 
 statements : tie.Need-returns
 unfolding capacityFault
-statements c = simp (lt-ltb _ _ (c .before .if1 .taken)) (c .refuse .ensures)
+statements c = simp (lt-ltb maxStatements _ (c .before .if1 .taken)) (c .refuse .ensures)
 
 slots : tie.Need-returns-2
 unfolding capacityFault
