@@ -7,7 +7,7 @@
    - What a call writes (no `const`) overlaps nothing else that the same call is given.
    - No other thread or interrupt writes what a call is given while it runs.
 
-   The archive asks for memcpy, memmove and memset, and for nothing else. Its code may use the SSE registers and the 128 bytes below the
+   The archive asks for memcpy and memset, and for nothing else. Its code may use the SSE registers and the 128 bytes below the
    stack pointer, as the System V convention allows: a bootloader turns SSE on first, and takes interrupts on another stack.
 
    Nothing is kept: everything is lent for the time of the call and stays yours. Nothing is allocated, and there is no global state, so
