@@ -1,6 +1,6 @@
 -- docs/LAYOUT.md, "What it writes": the rows, window by window, and whether more follow.
 use mathlib.Core.Path.{_≡_}
-use Prim.Native.Nat.{ℕ, _+_, _-_, _*_, _/_, _≤_, min}
+use Prim.Native.Nat.{ℕ, zero, suc, _+_, _-_, _*_, _/_, _≤_, min}
 use mathlib.Core.Bool.{Bool, true, false, cond, not, _||_}
 use mathlib.Core.List.{List, [], _++_}
 use lib.ListN.{length, take, drop}
@@ -63,6 +63,13 @@ endText last more = cond last (lastLine more) []
 unfoldable pub windowText : Plan → Tables → ℕ → ℕ → ℕ → List ℕ
 windowText p ts from left room =
     linesOf (p .«select_count») (shownOf p ts from left room) ++ endText (windowStep p ts from left room .last) (moreOf p ts from left room)
+
+-- the windows' texts one after the other, until the last; at most n of them
+unfoldable pub windowsText : ℕ → Plan → Tables → ℕ → ℕ → ℕ → List ℕ
+windowsText zero p ts from left room = []
+windowsText (suc n) p ts from left room =
+    windowText p ts from left room
+    ++ cond (windowStep p ts from left room .last) [] (windowsText n p ts (windowStep p ts from left room .from) (windowStep p ts from left room .left) room)
 
 -- the longest text of a word, its digits and a space; and of the last line
 abbrev pub wordBytes : ℕ
