@@ -7,7 +7,8 @@ use Rattle.capacity.specs.Capacity.{maxStatements, maxSelects}
 use Rattle.refusal.specs.declared.Verdict.the-variants.{Fine}
 use Rattle.lists.specs.Padded.{padded}
 use Rattle.lists.proofs.Padded.{padded-length}
-use Rattle.orders.proofs.Counts.{same, holds, timesIn, holds-yes}
+use Rattle.orders.specs.Times.{same, holds, timesIn}
+use Rattle.orders.proofs.Counts.{holds-yes}
 use Rattle.query.specs.Query.{named}
 use Rattle.query_check.specs.Refusals.{constants, statementsFault, selectsFault, unusedFault, capacityFault, variablesFault, queryFault}
 use Rattle.planner.specs.Refusals.{boundTwiceFault, planFault}

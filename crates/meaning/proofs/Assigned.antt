@@ -8,7 +8,7 @@ use borrow.Author.Tests.{leb-true, leb-false}
 use lib.ListN.{length, getD, take, drop, replicate, length-append, length-replicate, length-drop, length-map, take-append-drop, List·getD-append}
 use lib.Seq.{ext-getD, getD-take, getD-drop, getD-append-add, length-take-le, take-at}
 use lib.Dec.{leb}
-use Rattle.orders.proofs.Counts.{timesIn}
+use Rattle.orders.specs.Times.{timesIn}
 use Rattle.query.specs.declared.Statement.{Statement}
 use Rattle.query.specs.Query.{named}
 use Rattle.query_check.specs.Refusals.{constants}

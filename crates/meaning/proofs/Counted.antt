@@ -6,7 +6,8 @@ use Prim.Native.Nat.{ℕ, zero, suc, _+_, _≤_, _<_}
 use native.Mathlib.Omega.{arith}
 use native.Mathlib.Nat.{not-suc-le-zero}
 use native.Mathlib.Decide.{ℕ-discrete}
-use Rattle.orders.proofs.Counts.{same, holds, timesIn, holds-yes, holds-no, timesIn-append}
+use Rattle.orders.specs.Times.{same, holds, timesIn}
+use Rattle.orders.proofs.Counts.{holds-yes, holds-no, timesIn-append}
 use Rattle.search.proofs.Arranged.{sum}
 use Rattle.lists.specs.Span.{span}
 use Rattle.tables.specs.Rows.{keep}

@@ -40,7 +40,8 @@ use Rattle.tables.proofs.Promises.{tables-pass}
 use Rattle.visits.specs.Visits.{Tables}
 use Rattle.eval.specs.declared.Evaluated.{Evaluated}
 use Rattle.eval.specs.Evaluation.{evaluationFault, evaluateOf}
-use Rattle.meaning.specs.Meaning.{Clear, SoundOrder, ListedIn}
+use Rattle.query_check.specs.Clear.{Clear}
+use Rattle.meaning.specs.Meaning.{SoundOrder, ListedIn}
 use Rattle.meaning.specs.Searched.{Cheapest}
 use Rattle.meaning.specs.Shown.{Shown}
 use Rattle.meaning.proofs.SomeListed.{at-member, same-default, listings-some}

@@ -35,7 +35,8 @@ use Rattle.listing.proofs.Passes.{same-listed, same-scans, same-passes}
 use Rattle.tables.specs.Passed.{Passed}
 use Rattle.visits.specs.Visits.{Tables, valueOf, initialSlots, selected, slotsAt, visits, rowList}
 use Rattle.visits.proofs.Steady.{promised-sound, promised-last, constant-kept}
-use Rattle.meaning.specs.Meaning.{through, Meaning, Clear}
+use Rattle.query_check.specs.Clear.{Clear}
+use Rattle.meaning.specs.Meaning.{through, Meaning}
 use Rattle.meaning.proofs.Parts.{parts}
 use Rattle.meaning.proofs.Stated.{constantsOf}
 use Rattle.meaning.proofs.Assigned.{begun, Answering, assigned, assigned-every, assigned-only, assigned-once}

@@ -19,7 +19,8 @@ use Rattle.search.specs.Best.{arrangedQuery}
 use Rattle.search.proofs.Arranged.{many, many-order}
 use Rattle.search.proofs.Fresh.{statements-ordered, arranged-statements, arranged-fine}
 use Rattle.visits.specs.Visits.{Tables}
-use Rattle.meaning.specs.Meaning.{isFact, stated, areFacts, Clear}
+use Rattle.query_check.specs.Clear.{Clear}
+use Rattle.meaning.specs.Meaning.{isFact, stated, areFacts}
 
 -- the statements are facts if none is not
 facts-none : (ts : Tables) (ss : List Statement) (a : List ℕ) → areFacts ts ss a ≡ eqb (many (λ s. not (isFact ts (stated a s))) ss) 0

@@ -8,7 +8,8 @@ use native.Mathlib.Omega.{arith}
 use lib.ListN.{length, getD, take, drop}
 use lib.Seq.{ext-getD}
 use Rattle.datom.specs.Fact.{Fact}
-use Rattle.orders.proofs.Counts.{same, timesIn, holds-yes, holds-no}
+use Rattle.orders.specs.Times.{same, timesIn}
+use Rattle.orders.proofs.Counts.{holds-yes, holds-no}
 use Rattle.search.proofs.Arranged.{sum}
 use Rattle.tables.specs.Rows.{count, row, rowsOf, begins, matching}
 use Rattle.tables.specs.Check.{isAmong}

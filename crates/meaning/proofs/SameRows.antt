@@ -4,7 +4,8 @@ use Prim.Native.Nat.{ℕ, _≤_}
 use native.Mathlib.Omega.{arith}
 use native.Mathlib.Nat.{not-suc-le-zero}
 use mathlib.Core.List.{List, [], _∷_, _++_, map, map-append}
-use Rattle.orders.proofs.Counts.{same, timesIn, holds-yes, holds-no, timesIn-append}
+use Rattle.orders.specs.Times.{same, timesIn}
+use Rattle.orders.proofs.Counts.{holds-yes, holds-no, timesIn-append}
 use Rattle.query.specs.declared.Query.{Query}
 use Rattle.query.specs.Query.{selectsOf}
 use Rattle.visits.specs.Visits.{Tables}

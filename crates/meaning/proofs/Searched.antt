@@ -24,7 +24,8 @@ use Rattle.search.specs.Search.{Candidate, arranged, isSound, weighed, leastFro
 use Rattle.search.specs.FirstLeast.{FirstLeast}
 use Rattle.search.proofs.First.{least-first}
 use Rattle.search.proofs.Cheapest.{refuses-unsound, unsound-refused}
-use Rattle.meaning.specs.Meaning.{Clear, SoundOrder, ListedIn}
+use Rattle.query_check.specs.Clear.{Clear}
+use Rattle.meaning.specs.Meaning.{SoundOrder, ListedIn}
 use Rattle.meaning.specs.Reasons.{SearchReason, of-query, over-searched, no-sound-order, searchRefusal}
 use Rattle.meaning.specs.Searched.{weighedIn, Cheapest, SearchExplained}
 use Rattle.meaning.proofs.Weighs.{weighs}

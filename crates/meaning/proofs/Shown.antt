@@ -20,7 +20,8 @@ use Rattle.tables.specs.Passed.{Passed}
 use Rattle.tables.proofs.Promises.{pass-tables}
 use Rattle.visits.specs.Visits.{Tables}
 use Rattle.eval.specs.Evaluation.{evaluationFault, evaluateOf, bufferAfter}
-use Rattle.meaning.specs.Meaning.{Clear, SoundOrder, ListedIn, planIn}
+use Rattle.query_check.specs.Clear.{Clear}
+use Rattle.meaning.specs.Meaning.{SoundOrder, ListedIn, planIn}
 use Rattle.meaning.specs.Shown.{Shown}
 use Rattle.meaning.proofs.Parts.{parts}
 use Rattle.meaning.proofs.Theorem.{plan-checked, plan-selects, meaning}

@@ -5,7 +5,7 @@ use mathlib.Core.List.{List, [], map}
 use Prim.Native.Nat.{ℕ, zero, suc}
 use native.Mathlib.Omega.{arith}
 use Rattle.refusal.specs.declared.Verdict.the-variants.{Fine}
-use Rattle.orders.proofs.Counts.{timesIn}
+use Rattle.orders.specs.Times.{timesIn}
 use Rattle.query.specs.declared.Query.{Query}
 use Rattle.query.specs.Query.{statementsOf, selectsOf}
 use Rattle.plan.specs.declared.Scan.{Scan}
@@ -18,7 +18,8 @@ use Rattle.search.proofs.Answer.{sound-fine}
 use Rattle.search.specs.Search.{arranged}
 use Rattle.tables.specs.Passed.{Passed}
 use Rattle.visits.specs.Visits.{Tables}
-use Rattle.meaning.specs.Meaning.{Answers, Meaning, Clear, SoundOrder, ListedIn, planIn, rowsIn}
+use Rattle.query_check.specs.Clear.{Clear}
+use Rattle.meaning.specs.Meaning.{Answers, Meaning, SoundOrder, ListedIn, planIn, rowsIn}
 use Rattle.meaning.proofs.Given.{given-meaning, first-selects, listed-scans, listed-checked}
 use Rattle.meaning.proofs.Ordered.{ordered-statements, ordered-clear, ordered-facts}
 

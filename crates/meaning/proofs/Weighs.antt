@@ -21,7 +21,8 @@ use Rattle.listing.proofs.NextLists.{same-flows}
 use Rattle.search.specs.Search.{arranged, weighed}
 use Rattle.search.proofs.Bounded.{fault-fine}
 use Rattle.search.proofs.Cheapest.{weighs-every, weighs-only}
-use Rattle.meaning.specs.Meaning.{Clear, SoundOrder, ListedIn, planIn}
+use Rattle.query_check.specs.Clear.{Clear}
+use Rattle.meaning.specs.Meaning.{SoundOrder, ListedIn, planIn}
 use Rattle.meaning.specs.Searched.{Weighs}
 use Rattle.meaning.proofs.Theorem.{plan-checked, plan-has}
 

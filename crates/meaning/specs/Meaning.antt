@@ -4,18 +4,15 @@ use Prim.Native.Nat.{ℕ, _≤_}
 use mathlib.Core.List.{List, [], _∷_, map, List·Memᴰ}
 use mathlib.Core.Bool.{Bool, true, _&&_}
 use lib.ListN.{length, getD}
-use Rattle.capacity.specs.Capacity.{maxStatements, maxSelects}
-use Rattle.refusal.specs.declared.Verdict.the-variants.{Fine}
 use Rattle.datom.specs.Fact.{Fact, aevtRow}
 use Rattle.orders.specs.Lists.{upTo, OrderOf}
-use Rattle.orders.proofs.Counts.{timesIn}
+use Rattle.orders.specs.Times.{timesIn}
 use Rattle.query.specs.declared.Var.{Var}
 use Rattle.query.specs.declared.QueryValue.{QueryValue}
 use Rattle.query.specs.declared.QueryValue.the-variants.{Const, Var as Variable}
 use Rattle.query.specs.declared.Statement.{Statement}
 use Rattle.query.specs.declared.Query.{Query}
 use Rattle.query.specs.Query.{statementsOf, selectsOf}
-use Rattle.query_check.specs.Refusals.{queryFault}
 use Rattle.plan.specs.declared.Scan.{Scan}
 use Rattle.plan.specs.declared.Plan.{Plan}
 use Rattle.planner.specs.Planning.{scansFor}
@@ -63,12 +60,6 @@ pub record Meaning (ts : Tables) (q : Query) (rows : List (List ℕ)) : Type 0 w
   pub assignments : List (List ℕ)
   pub answers : Answers ts q assignments
   pub rows-are : rows ≡ map (through (selectsOf q)) assignments
-
--- a query as the code holds it, clear of 10 to 15
-pub record Clear (q : Query) : Type 0 where
-  pub statements-sized : length (q .«where_statements» .items) ≡ maxStatements
-  pub selects-sized : length (q .select .items) ≡ maxSelects
-  pub fine : queryFault q ≡ Fine
 
 -- a sound order of a query's statements, as statement numbers
 pub record SoundOrder (q : Query) (o : List ℕ) : Type 0 where

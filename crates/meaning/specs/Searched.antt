@@ -13,7 +13,8 @@ use Rattle.cost.specs.Cost.{costOf}
 use Rattle.search.specs.declared.Found.{Found}
 use Rattle.search.specs.Search.{Candidate, orders, weighed, candidates, foundAs, notFound, searchOf}
 use Rattle.search.specs.FirstLeast.{FirstLeast}
-use Rattle.meaning.specs.Meaning.{Clear, SoundOrder, ListedIn, planIn}
+use Rattle.query_check.specs.Clear.{Clear}
+use Rattle.meaning.specs.Meaning.{SoundOrder, ListedIn, planIn}
 use Rattle.meaning.specs.Reasons.{SearchReason, searchRefusal}
 
 -- the plans that are weighed, in turn: of each order, as the swaps give them, the plans as listed

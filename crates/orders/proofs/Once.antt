@@ -12,7 +12,8 @@ use Rattle.permutation.specs.declared.Swap.{Swap}
 use Rattle.orders.specs.Lists.{swapped, times, one, OrderOf}
 use Rattle.orders.specs.Heap.{interchange, laps, heap}
 use Rattle.orders.proofs.Lists.{order-swapped, order-trans, snoc, times-append}
-use Rattle.orders.proofs.Counts.{same, timesIn, holds-yes, timesIn-append, timesIn-other, timesIn-last}
+use Rattle.orders.specs.Times.{same, timesIn}
+use Rattle.orders.proofs.Counts.{holds-yes, timesIn-append, timesIn-other, timesIn-last}
 use Rattle.orders.proofs.Act.{act, visits, Within, within-more, within-heap, interchange-lt, visits-onto, visits-append, order-act}
 use Rattle.orders.proofs.Laps.{endsOf}
 use Rattle.orders.proofs.Net.{ends-heap}

@@ -1,3 +1,4 @@
 pub mod Lists
+pub mod Times
 pub mod Heap
 pub mod Listing

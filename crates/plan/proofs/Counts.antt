@@ -1,6 +1,6 @@
 -- What it says that the counts of a plan are fine.
 use mathlib.Core.Path.{_≡_}
-use Prim.Native.Nat.{ℕ, _≤_}
+use Prim.Native.Nat.{ℕ}
 use mathlib.Core.Bool.{_||_}
 use borrow.Author.Tests.{ltb-false}
 use lib.Dec.{ltb}
@@ -8,13 +8,7 @@ use Rattle.capacity.specs.Capacity.{maxScans, maxSlots, maxSelects}
 use Rattle.lists.proofs.Tests.{neither}
 use Rattle.refusal.specs.declared.Verdict.the-variants.{Fine}
 use Rattle.refusal.proofs.Fine.{refuse-fine}
-use Rattle.plan.specs.Plan.{countsFault}
-
--- the counts are within the capacities
-pub record Counted (scans slots selects : ℕ) : Type 0 where
-  pub few-scans : scans ≤ maxScans
-  pub few-slots : slots ≤ maxSlots
-  pub few-selects : selects ≤ maxSelects
+use Rattle.plan.specs.Plan.{countsFault, Counted}
 
 pub counts-fine : (scans slots selects : ℕ) → countsFault scans slots selects ≡ Fine → Counted scans slots selects
 unfolding countsFault

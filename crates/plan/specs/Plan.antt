@@ -1,6 +1,6 @@
 -- 01, "How a query becomes a plan" and "Index order of slots": what a plan is made of.
 use mathlib.Core.Path.{_≡_}
-use Prim.Native.Nat.{ℕ, _+_}
+use Prim.Native.Nat.{ℕ, _+_, _≤_}
 use mathlib.Core.List.{List, [], _∷_}
 use mathlib.Core.Bool.{Bool, true, false, _||_}
 use lib.ListN.{take, replicate}
@@ -114,6 +114,12 @@ emptyPlan = record {
 -- 20: plan counts over 96 slots, 48 scans or 32 selects
 unfoldable pub countsFault : ℕ → ℕ → ℕ → Verdict
 countsFault scans slots selects = refuseIf (ltb maxSlots slots || ltb maxScans scans || ltb maxSelects selects) 20 0
+
+-- what 20 leaves: the counts are within the capacities
+pub record Counted (scans slots selects : ℕ) : Type 0 where
+  pub few-scans : scans ≤ maxScans
+  pub few-slots : slots ≤ maxSlots
+  pub few-selects : selects ≤ maxSelects
 
 -- 21 at the lowest scan from number i on that is out-out over eavt
 unfoldable pub outOutFault : List Scan → ℕ → Verdict

@@ -19,11 +19,9 @@ use Rattle.plan.specs.declared.SlotRecord.{SlotRecord}
 use Rattle.plan.specs.declared.Plan.{Plan}
 use Rattle.plan.specs.declared.Access.{Access}
 use Rattle.plan.specs.declared.Access.the-variants.{Reads, Writes}
-use Rattle.plan.specs.Plan.{firstSlot, secondSlot, firstAccess, secondAccess, outOutEavt, countsFault}
-use Rattle.plan.specs.Plan.{zeroSlot, zeroScan, scansOf, slotsOf, selectsOf}
+use Rattle.plan.specs.Plan.{firstSlot, secondSlot, firstAccess, secondAccess, outOutEavt, countsFault, zeroSlot, zeroScan, scansOf, slotsOf, selectsOf}
 use Rattle.plan.proofs.Counts.{counts-fine}
-use Rattle.plan_check.specs.Check.{firstWrites, isSet, accessFault, slotFault, scanFault, scansFault}
-use Rattle.plan_check.specs.Check.{unsetFault, initializationFault, selectsFault, checkOf}
+use Rattle.plan_check.specs.Check.{firstWrites, isSet, accessFault, slotFault, scanFault, scansFault, unsetFault, initializationFault, selectsFault, checkOf}
 use Rattle.plan_check.specs.Promised.{Rightly, Fits, Promised}
 
 -- 23 and 24: what is read is set, and what is written is not

@@ -20,10 +20,8 @@ use Rattle.plan.specs.declared.Access.the-variants.{Reads, Writes}
 use Rattle.plan.specs.Plan.{isConstant, variableSlot, firstAccess, secondAccess, firstSlot, secondSlot}
 use Rattle.plan_check.specs.declared.Initialization.{Initialization}
 use Rattle.plan_check.specs.declared.Initialization.the-variants.{Unset, Set}
-use Rattle.plan_check.specs.Check.{writesTo, firstWrites, secondWrites, written, isSet}
-use Rattle.plan_check.specs.Check.{slotFault, scanFault, scansFault, unsetFault, initializationFault}
-use Rattle.plan_check.specs.Record.{stateOf, isSetState, constantsRecord, accessRecord, scanRecord}
-use Rattle.plan_check.specs.Record.{slotFaultIn, scanFaultIn, unsetFaultIn, scansFaultIn}
+use Rattle.plan_check.specs.Check.{writesTo, firstWrites, secondWrites, written, isSet, slotFault, scanFault, scansFault, unsetFault, initializationFault}
+use Rattle.plan_check.specs.Record.{stateOf, isSetState, constantsRecord, accessRecord, scanRecord, slotFaultIn, scanFaultIn, unsetFaultIn, scansFaultIn}
 
 -- a record's first n entries say what f says
 record Tracks (n : ℕ) (rec : List Initialization) (f : ℕ → Bool) : Type 0 where

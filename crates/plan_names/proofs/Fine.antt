@@ -9,7 +9,8 @@ use lib.Dec.{eqb}
 use Rattle.refusal.specs.declared.Verdict.the-variants.{Fine}
 use Rattle.refusal.proofs.Fine.{refuse-fine, or-fine}
 use Rattle.plan.specs.declared.Plan.{Plan}
-use Rattle.plan.proofs.Counts.{Counted, counts-fine}
+use Rattle.plan.specs.Plan.{Counted}
+use Rattle.plan.proofs.Counts.{counts-fine}
 use Rattle.plan_check.specs.Check.{checkOf}
 use Rattle.plan_names.specs.Names.{endsFault, namesFault}
 

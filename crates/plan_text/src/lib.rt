@@ -27,7 +27,7 @@ ghost use lib.ListN.{length, take};
 ghost use Rattle.capacity.specs.Capacity.{maxScans, maxSlots, maxSelects};
 ghost use Rattle.pieces.specs.Written.{Written};
 ghost use Rattle.plan.specs.declared.SlotDefinition.the-variants.{Constant};
-ghost use Rattle.plan.proofs.Counts.{Counted};
+ghost use Rattle.plan.specs.Plan.{Counted};
 ghost use Rattle.plan_text.specs.Text.{constantLine, constantLines, scanLines, separator, selectsText, textOf};
 ghost use Rattle.plan_text.specs.Answer.{formattedOf, bufferAfter};
 

@@ -105,14 +105,14 @@ module _ (q : Query) (able : Searchable q) where
 
     planned : planOf (arrangedQuery q o) .plan ≡ fresh
     planned =
-        fresh-plan q (able .statements-sized) (able .fine) o is-order (able .selects-sized)
-        (plan-verdict (arrangedQuery q o) ∙ arranged-fault q (able .statements-sized) (able .fine) o is-order ∙ sound-fine _ (w .3))
+        fresh-plan q (able .clear .statements-sized) (able .clear .fine) o is-order (able .clear .selects-sized)
+        (plan-verdict (arrangedQuery q o) ∙ arranged-fault q (able .clear .statements-sized) (able .clear .fine) o is-order ∙ sound-fine _ (w .3))
 
     with-scans : planWith fresh (padded zeroScan maxScans l) ≡ withScans fresh l
     unfolding planFor
     with-scans =
         let i = scansFor [] (arranged ss o) (q .«variable_count») in
-        let n : length i ≡ count = initial-long q (able .statements-sized) (able .fine) o is-order in
+        let n : length i ≡ count = initial-long q (able .clear .statements-sized) (able .clear .fine) o is-order in
         let p = padded-other zeroScan maxScans i l (listed-long i l (w .4)) (omega (arith, n, able .few)) in
         rw (sym (rw n at p))
 

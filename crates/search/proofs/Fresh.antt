@@ -117,24 +117,24 @@ module _ (q : Query) (able : Searchable q) (order : List ℕ) (os : Orders (q .�
 
   pub order-passed : (r : Refusal) → planned .verdict ≡ Refused r → (b : Best) → b ≡ bestFrom b candidates
   unfolding bestFrom
-  order-passed r v b = rw (unsound-none q (able .statements-sized) (able .fine) o (os .is-order) r (sym (ap (λ (p : Planned). p .verdict) e) ∙ v))
+  order-passed r v b = rw (unsound-none q (able .clear .statements-sized) (able .clear .fine) o (os .is-order) r (sym (ap (λ (p : Planned). p .verdict) e) ∙ v))
 
   module _ (v : planned .verdict ≡ Fine) where
     accepted : planOf (arrangedQuery q o) .verdict ≡ Fine
     accepted = sym (ap (λ (p : Planned). p .verdict) e) ∙ v
 
     counted : planned .plan .«scan_count» ≡ q .«where_statements» .count
-    counted = ap (λ (p : Planned). p .plan .«scan_count») e ∙ fresh-count q (able .statements-sized) (able .fine) o (os .is-order) (able .selects-sized) accepted
+    counted = ap (λ (p : Planned). p .plan .«scan_count») e ∙ fresh-count q (able .clear .statements-sized) (able .clear .fine) o (os .is-order) (able .clear .selects-sized) accepted
 
     scanned : planned .plan .scans ≡ padded zeroScan maxScans (scansFor [] (arranged (statementsOf q) o) (q .«variable_count»))
-    scanned = ap (λ (p : Planned). p .plan .scans) e ∙ fresh-scans q (able .statements-sized) (able .fine) o (os .is-order) (able .selects-sized) accepted
+    scanned = ap (λ (p : Planned). p .plan .scans) e ∙ fresh-scans q (able .clear .statements-sized) (able .clear .fine) o (os .is-order) (able .clear .selects-sized) accepted
 
     pub order-asks : Orders (planned .plan .«scan_count») order × Plans (planned .plan .«scan_count») (planned .plan .scans)
-    order-asks = rw (counted, scanned) (os, fresh-plans q (able .statements-sized) (able .fine) o (os .is-order) (able .selects-sized) accepted)
+    order-asks = rw (counted, scanned) (os, fresh-plans q (able .clear .statements-sized) (able .clear .fine) o (os .is-order) (able .clear .selects-sized) accepted)
 
     pub order-weighs : (b r : Best)
         → r ≡ bestFrom b (map (weighed (take (planned .plan .«scan_count») order)) (combinations (take (planned .plan .«scan_count») (planned .plan .scans))))
         → r ≡ bestFrom b candidates
     order-weighs b r h =
-        let front = initial-front q (able .statements-sized) (able .fine) o (os .is-order) (able .selects-sized) accepted in
-        rw (sound-plans q (able .statements-sized) (able .fine) o (os .is-order) (able .selects-sized) accepted) (rw (counted, scanned, front) at h)
+        let front = initial-front q (able .clear .statements-sized) (able .clear .fine) o (os .is-order) (able .clear .selects-sized) accepted in
+        rw (sound-plans q (able .clear .statements-sized) (able .clear .fine) o (os .is-order) (able .clear .selects-sized) accepted) (rw (counted, scanned, front) at h)

@@ -3,14 +3,14 @@ use mathlib.Core.Path.{_≡_}
 use Prim.Native.Nat.{ℕ, _≤_}
 use mathlib.Core.List.{List, [], _∷_}
 use mathlib.Core.Bool.{Bool, true, false, cond}
-use lib.ListN.{length, take, replicate}
+use lib.ListN.{take, replicate}
 use lib.Dec.{ltb}
-use Rattle.capacity.specs.Capacity.{maxStatements, maxSelects, maxScans, maxSearched}
+use Rattle.capacity.specs.Capacity.{maxStatements, maxScans, maxSearched}
 use Rattle.lists.specs.Padded.{padded}
 use Rattle.refusal.specs.declared.Verdict.the-variants.{Fine}
 use Rattle.query.specs.declared.Query.{Query}
 use Rattle.query.specs.Query.{statementsOf, zeroStatement}
-use Rattle.query_check.specs.Refusals.{queryFault}
+use Rattle.query_check.specs.Clear.{Clear}
 use Rattle.plan.specs.declared.Scan.{Scan}
 use Rattle.plan.specs.declared.Plan.{Plan}
 use Rattle.plan.specs.Plan.{zeroScan}
@@ -49,12 +49,10 @@ arrangedQuery q o = record {
   select = q .select;
 }
 
--- a query that is searched: none of 10 to 15 and 17, and the arrays as long as they are declared
+-- a query that is searched: clear of 10 to 15, and of 17
 pub record Searchable (q : Query) : Type 0 where
-  pub fine : queryFault q ≡ Fine
+  pub clear : Clear q
   pub few : q .«where_statements» .count ≤ maxSearched
-  pub statements-sized : length (q .«where_statements» .items) ≡ maxStatements
-  pub selects-sized : length (q .select .items) ≡ maxSelects
 
 -- the order of so many statements that an array has in front, with zeros behind
 pub record Orders (count : ℕ) (order : List ℕ) : Type 0 where

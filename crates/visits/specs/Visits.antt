@@ -3,7 +3,7 @@ use Prim.Native.Nat.{ℕ, _+_}
 use mathlib.Core.List.{List, [], _∷_, _++_, map}
 use lib.ListN.{getD, set, take}
 use Rattle.datom.specs.Fact.{Fact, aevtRow, avetRow, eavtRow}
-use Rattle.tables.specs.Rows.{row, matching}
+use Rattle.tables.specs.Rows.{row, matching, factOf}
 use Rattle.plan.specs.declared.Slot.{Slot}
 use Rattle.plan.specs.declared.Scan.{Scan}
 use Rattle.plan.specs.declared.SlotRecord.{SlotRecord}
@@ -36,7 +36,7 @@ rowFor Avet f = avetRow f
 rowFor Eavt f = eavtRow f
 
 abbrev pub factIn : Index → List ℕ → Fact
-factIn Aevt r = record { attribute = getD r 0 0; entity = getD r 1 0; value = getD r 2 0 }
+factIn Aevt r = factOf r
 factIn Avet r = record { attribute = getD r 0 0; value = getD r 1 0; entity = getD r 2 0 }
 factIn Eavt r = record { entity = getD r 0 0; attribute = getD r 1 0; value = getD r 2 0 }
 

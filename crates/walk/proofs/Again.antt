@@ -15,8 +15,7 @@ use Rattle.visits.specs.Visits.{Tables, tableOf, visited}
 use Rattle.visits.specs.Sound.{Sound, Agree}
 use Rattle.visits.specs.Pending.{iterWords, position, ending, current, currentSlots, pending}
 use Rattle.visits.proofs.Slots.{visited-agree}
-use Rattle.visits.proofs.Pending.{SameBelow, current-same, pending-same}
-use Rattle.visits.proofs.Pending.{pending-refilled, agree-below}
+use Rattle.visits.proofs.Pending.{SameBelow, current-same, pending-same, pending-refilled, agree-below}
 use Rattle.walk.specs.Steps.{Ascend, keyOf, Found, Stepped}
 use Rattle.walk.proofs.Turn.{Turn, suc-pred, ends-after}
 

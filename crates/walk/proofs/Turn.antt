@@ -15,8 +15,7 @@ use Rattle.visits.specs.Visits.{Tables, tableOf}
 use Rattle.visits.specs.Sound.{Sound, Agree}
 use Rattle.visits.specs.Pending.{extend, iterWords, position, ending, current, currentSlots, pending}
 use Rattle.visits.proofs.Slots.{standing-stood, standing-agree}
-use Rattle.visits.proofs.Pending.{current-same}
-use Rattle.visits.proofs.Pending.{pending-took, pending-dry, current-step, current-slots-length}
+use Rattle.visits.proofs.Pending.{current-same, pending-took, pending-dry, current-step, current-slots-length}
 use Rattle.walk.specs.Steps.{filledFrom, Ready, Stepped}
 
 no-true : {A : Type 0} → false ≡ true → A

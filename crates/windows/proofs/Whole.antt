@@ -12,7 +12,7 @@ use Rattle.pieces.specs.Written.{largest}
 use Rattle.visits.specs.Visits.{Tables}
 use Rattle.eval.specs.Evaluation.{evaluationFault}
 use Rattle.windows.specs.declared.Step.{Step}
-use Rattle.windows.specs.Windows.{rowsOf, rowsText, shownOf, moreOf, isLast, windowStep, windowText, windowsText}
+use Rattle.windows.specs.Windows.{rowsOf, rowsText, shownOf, moreOf, isLast, windowStep, windowsText}
 use Rattle.windows.proofs.Stepped.{goes, step-last, step-on}
 use Rattle.windows.proofs.Joined.{further, joined}
 

@@ -8,8 +8,8 @@ use lib.Seq.{length-take-le}
 use Rattle.capacity.specs.Capacity.{maxSlots}
 use Rattle.refusal.specs.declared.Verdict.the-variants.{Fine}
 use Rattle.refusal.specs.Verdict.{orElse}
-use Rattle.plan.specs.Plan.{countsFault, slotsOf, selectsOf}
-use Rattle.plan.proofs.Counts.{Counted, counts-fine}
+use Rattle.plan.specs.Plan.{countsFault, slotsOf, selectsOf, Counted}
+use Rattle.plan.proofs.Counts.{counts-fine}
 use Rattle.plan_check.specs.Check.{selectsFault, checkOf}
 use Rattle.plan_check.proofs.check_invariants.Statement.{statement}
 use Rattle.plan_check.proofs.check_invariants.Tie as tie

@@ -37,7 +37,7 @@ many c =
 able : (c : tie.Else1) → Searchable (c .before .before .before .before .args .query)
 able c =
     let a = c .before .before .before .before in
-    record { fine = fine (c .before); few = c .if1 .left; statements-sized = sized a; selects-sized = selects-sized a }
+    record { clear = record { fine = fine (c .before); statements-sized = sized a; selects-sized = selects-sized a }; few = c .if1 .left }
 
 first : (c : tie.Else1) →
     let q = c .before .before .before .before .args .query in searchOf q ≡ firstLeast q (candidates (q .«variable_count») (statementsOf q) (orders (q .«where_statements» .count)))
