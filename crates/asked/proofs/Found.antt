@@ -66,7 +66,7 @@ module _ (ws : List ℕ) (i : ℕ) where
     unfolding areBytes
     bytes-on b = rw (drop-cons ws i 0 h, le-leb (getD ws i 0) 255 b, add-one)
 
-both-true : (p q : Bool) → p && q ≡ true → (p ≡ true) × (q ≡ true)
+pub both-true : (p q : Bool) → p && q ≡ true → (p ≡ true) × (q ≡ true)
 both-true true q h = (refl, h)
 both-true false q h = absurd (false≢true h)
 

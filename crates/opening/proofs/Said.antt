@@ -1,6 +1,6 @@
 -- What is said of a question, case by case.
 use mathlib.Core.Path.{_≡_, refl, sym, ap, subst, _∙_}
-use mathlib.Core.Bool.{Bool, true, false, _&&_}
+use mathlib.Core.Bool.{true, false}
 use mathlib.Core.List.{List, [], _++_}
 use Prim.Native.Nat.{ℕ, _+_, _-_, _≤_, _<_, _^_}
 use native.Mathlib.Omega.{arith}
@@ -30,16 +30,13 @@ use Rattle.walk.specs.Steps.{tablesOf}
 use Rattle.asked.specs.declared.Parts.{Parts}
 use Rattle.asked.specs.Parts.{partsOf, itemsOf, areKinds, areBytes, insideOf}
 use Rattle.asked.specs.Asked.{bytesAfter}
+use Rattle.asked.proofs.Found.{both-true}
 use Rattle.asked.proofs.Filled.{bytes-all}
 use Rattle.asked_plan.specs.declared.Answer.{Answer}
 use Rattle.asked_plan.specs.Answer.{answerOf}
 use Rattle.opening.specs.declared.Opening.{Opening}
 use Rattle.opening.specs.Question.{nameBytes, namesOf, isQuestion, endsOf, tablesIn}
 use Rattle.opening.specs.Opening.{costBytes, Said, only, outside, refusal, showingFault, openedWith, opened, openingOf, Line, Opens}
-
-both-true : (p q : Bool) → p && q ≡ true → (p ≡ true) × (q ≡ true)
-both-true true q h = (refl, h)
-both-true false q h = (h, cc)
 
 pub no-question : (ws : List ℕ) → insideOf ws ≡ false → false ≡ isQuestion ws
 unfolding isQuestion

@@ -27,7 +27,7 @@ pub struct Opening {
 }
 
 // The bytes of names that there is room for.
-pub const NAME_BYTES: usize = 4096;
+const NAME_BYTES: usize = 4096;
 
 // The longest cost line.
 const COST_BYTES: usize = 27;

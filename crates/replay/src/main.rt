@@ -4,6 +4,7 @@ use libc::STDIN_FILENO;
 use written::put;
 ghost use mathlib.Core.Path.{_≡_};
 ghost use lib.ListN.{length};
+ghost use Rattle.replay.specs.Capacity.{textBytes};
 
 // The cases are shorter than this many bytes.
 const TEXT_BYTES: usize = 1048576;
@@ -36,7 +37,7 @@ fn main() {
 }
 
 fn text_buffer() -> [u8; TEXT_BYTES]
-    ensures { λ r. ⌜ 1048576 ≡ length r ⌝ }
+    ensures { λ r. ⌜ textBytes ≡ length r ⌝ }
 {
     [0; TEXT_BYTES]
 }

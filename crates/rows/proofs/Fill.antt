@@ -15,7 +15,7 @@ use Rattle.walk.specs.Steps.{Ready}
 use Rattle.rows.specs.Next.{innermost, remaining, Advanced, selectedBy, rowsAt}
 use Rattle.rows.proofs.Passing.{drop-next}
 
-flat-append : (xs ys : List (List ℕ)) → flat (xs ++ ys) ≡ flat xs ++ flat ys
+pub flat-append : (xs ys : List (List ℕ)) → flat (xs ++ ys) ≡ flat xs ++ flat ys
 unfolding flat
 flat-append [] ys = refl
 flat-append (x ∷ xs) ys = ap (λ (l : List ℕ). x ++ l) (flat-append xs ys) ∙ sym (append-assoc x (flat xs) (flat ys))

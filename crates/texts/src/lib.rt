@@ -10,6 +10,10 @@ use written::put_verdict;
 ghost use mathlib.Core.Path.{_≡_};
 ghost use Prim.Native.Nat.{_≤_};
 ghost use lib.ListN.{length};
+ghost use Rattle.texts.specs.Capacity.{bufferBytes};
+
+// The longest buffer for a text.
+const BUFFER_BYTES: usize = 4096;
 
 // How many were read, and where to read on.
 struct Counted {
@@ -86,16 +90,16 @@ fn show_text(plan: Plan, names: &[u8], ends: &[usize], out: &mut [u8]) {
 }
 
 // A buffer that shows which bytes stay.
-fn blank() -> [u8; 4096]
-    ensures { λ r. ⌜ 4096 ≡ length r ⌝ }
+fn blank() -> [u8; BUFFER_BYTES]
+    ensures { λ r. ⌜ bufferBytes ≡ length r ⌝ }
 {
-    [126; 4096]
+    [126; BUFFER_BYTES]
 }
 
 // The same to a buffer of so many bytes.
 fn show_text_in(plan: Plan, names: &[u8], ends: &[usize], room: u64) {
     let mut buffer = blank();
-    if room <= 4096 {
+    if room <= BUFFER_BYTES as u64 {
         show_text(plan, names, ends, &mut buffer[..room as usize]);
     }
 }

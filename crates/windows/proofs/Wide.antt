@@ -9,6 +9,7 @@ use mathlib.Core.Bool.{false}
 use lib.Dec.{leb}
 use lib.ListN.{length, take, drop, length-append}
 use Rattle.tables.specs.Rows.{flat}
+use Rattle.rows.proofs.Fill.{flat-append}
 use Rattle.reply.specs.Lines.{wordText, leftAfter, rowLines}
 use Rattle.windows.specs.Windows.{linesOf}
 
@@ -35,11 +36,6 @@ pub flat-long : {w : ℕ} {rs : List (List ℕ)} → Wide w rs → length (flat 
 unfolding flat
 flat-long none = omega arith
 flat-long (more {r = r} {rs = rs} e d) = length-append r (flat rs) ∙ rw (e, flat-long d, suc-mul) (omega arith)
-
-flat-append : (a b : List (List ℕ)) → flat (a ++ b) ≡ flat a ++ flat b
-unfolding flat
-flat-append [] b = refl
-flat-append (r ∷ a) b = ap (λ (l : List ℕ). r ++ l) (flat-append a b) ∙ sym (append-assoc r (flat a) (flat b))
 
 -- a row's words, and then others
 row-append : (width left : ℕ) (xs ys : List ℕ) → length xs ≡ suc left → rowLines width (suc left) (xs ++ ys) ≡ rowLines width (suc left) xs ++ rowLines width width ys
