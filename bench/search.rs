@@ -24,7 +24,7 @@ use query_cases::{bound_twice, case, chain, numbers, query_of, Case};
 use std::hint::black_box;
 use timing::{median, time};
 
-#[link(name = "timed_search", kind = "static")]
+#[link(name = "timed", kind = "static")]
 extern "C" {
     fn timed_search(text: *const u8, text_length: usize) -> u64;
 }

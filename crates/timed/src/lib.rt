@@ -1,4 +1,4 @@
-// Evaluation as C functions, for the benchmark (bench/run). The plan comes as decimal numbers (crate `given`).
+// Evaluation and the search as C functions, for the benchmarks (bench/run). A plan or a query comes as decimal numbers (crate `given`).
 use plan::Plan;
 use refusal::Verdict;
 ghost use Rattle.walk.specs.Steps.{tablesOf};
@@ -27,6 +27,19 @@ pub extern "C" fn timed_check(aevt: &[u64], avet: &[u64], eavt: &[u64]) -> u64 {
     match verdict {
         Verdict::Fine => 0,
         Verdict::Refused(r) => r.number as u64,
+    }
+}
+
+// Search once. Returns the cost, or 0 where it is refused.
+#[no_mangle]
+pub extern "C" fn timed_search(text: &[u8]) -> u64 {
+    let reading = given::read_query(text, 0);
+    let query = reading.query;
+    let found = search::search(query);
+    let verdict = found.verdict;
+    match verdict {
+        Verdict::Refused(_) => 0,
+        Verdict::Fine => found.cost,
     }
 }
 
