@@ -1,4 +1,3 @@
-pub mod Bench
 pub mod First
 pub mod Bounded
 pub mod Weighed

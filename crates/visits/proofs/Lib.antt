@@ -1,4 +1,3 @@
-pub mod Bench
 pub mod Nested
 pub mod Stood
 pub mod Slots
