@@ -2,23 +2,38 @@
 use mathlib.Core.Path.{_≡_, refl, sym, ap, _∙_}
 use mathlib.Core.Bool.{Bool}
 use mathlib.Core.List.{List, [], _∷_, map}
-use Prim.Native.Nat.{ℕ, _-_, _<_, _≤_}
+use Prim.Native.Nat.{ℕ, _*_, _<_, _≤_}
 use native.Mathlib.Omega.{arith}
 use lib.ListN.{length, getD, take, length-map, length-take, List·getD-map}
+use Rattle.capacity.specs.Capacity.{maxScans}
 use Rattle.plan.specs.declared.Slot.{Slot}
 use Rattle.plan.specs.declared.SlotRecord.{SlotRecord}
 use Rattle.plan.specs.declared.Plan.{Plan}
 use Rattle.plan.specs.Plan.{scansOf, slotsOf, selectsOf, zeroSlot}
 use Rattle.visits.specs.Visits.{Tables, valueOf, visits, slotsAt, initialSlots, rowList, selected}
+use Rattle.visits.specs.Pending.{iterWords}
 use Rattle.visits.proofs.Steady.{promised-sound}
 use Rattle.walk.specs.Words.{wordsOf, scansIn, Laid}
 use Rattle.walk.proofs.Words.{scans-back}
 use Rattle.rows.specs.Next.{Named, selectedBy, rowsAt, Shows}
-use Rattle.eval.specs.Evaluation.{valuesOf, numbersOf, Evaluable}
+use Rattle.eval.specs.Evaluation.{valuesOf, numbersOf, Evaluable, Roomy, RoomFor}
 
--- a part that starts at 0
-pub part : (l : List ℕ) (n : ℕ) (r : List ℕ) → take n l ≡ r → take (n - 0) l ≡ r
-part l n r e = let z : n - 0 ≡ n = omega arith in rw z e
+-- a plan that can be evaluated has room in a state that has room for any
+pub room-for : {p : Plan} {ts : Tables} {words initial selects iters slots : ℕ} → Evaluable p ts → Roomy words initial selects iters slots
+    → RoomFor p words initial selects slots
+room-for ok room = record {
+  few-scans = ok .promised .few-scans;
+  few-slots = ok .promised .few-slots;
+  few-selects = ok .promised .few-selects;
+  words-fit = omega (arith, ok .promised .few-scans, room .words-room);
+  initial-fit = omega (arith, ok .promised .few-slots, room .initial-room);
+  selects-fit = omega (arith, ok .promised .few-selects, room .selects-room);
+  slots-fit = omega (arith, ok .promised .few-slots, room .slots-room);
+}
+
+-- what fits in a buffer fits in it after a call, which keeps its length
+pub still-fits : (n room room′ : ℕ) → n ≤ room → room′ ≡ room → n ≤ room′
+still-fits n room room′ l e = rw e l
 
 selected-numbers : (ks : List Slot) (slots : List ℕ) → selectedBy (numbersOf ks) slots ≡ selected ks slots
 selected-numbers [] slots = refl
@@ -49,8 +64,8 @@ module _ {p : Plan} {ts : Tables} (ok : Evaluable p ts) (ws values ks : List ℕ
   pub layout-scans : 0 < length (scansIn ws)
   layout-scans = rw scans-are (ok .some-scan)
 
-  pub layout-few : length (scansIn ws) ≤ p .«scan_count»
-  layout-few = rw (scans-are, length-take (p .«scan_count») (p .scans)) (omega arith)
+  pub layout-iters : (room : ℕ) → iterWords * maxScans ≤ room → iterWords * length (scansIn ws) ≤ room
+  layout-iters room l = rw (scans-are, length-take (p .«scan_count») (p .scans)) (omega (arith, ok .promised .few-scans))
 
   pub layout-named : Named ks (length values)
   layout-named j l =

@@ -1,9 +1,10 @@
 -- 01, "Tables and rows" and "Refusal numbers": evaluation is the plan check, 28 where there are no scans, the check of the tables, and then
 -- the window of the rows.
+use mathlib.Core.Path.{_≡_}
 use mathlib.Core.Bool.{Bool, false}
 use Prim.Native.Nat.{ℕ, _*_, _<_, _≤_}
 use mathlib.Core.List.{List, map}
-use lib.ListN.{length}
+use lib.ListN.{length, take}
 use lib.Dec.{eqb}
 use Rattle.refusal.specs.declared.Verdict.{Verdict}
 use Rattle.refusal.specs.declared.Verdict.the-variants.{Fine}
@@ -12,14 +13,14 @@ use Rattle.capacity.specs.Capacity.{maxScans, maxSlots, maxSelects}
 use Rattle.plan.specs.declared.Slot.{Slot}
 use Rattle.plan.specs.declared.SlotRecord.{SlotRecord}
 use Rattle.plan.specs.declared.Plan.{Plan}
-use Rattle.plan.specs.Plan.{scansOf, selectsOf}
+use Rattle.plan.specs.Plan.{scansOf, slotsOf, selectsOf}
 use Rattle.plan_check.specs.Check.{checkOf}
 use Rattle.plan_check.specs.Promised.{Promised}
 use Rattle.tables.specs.Check.{tablesFault}
 use Rattle.visits.specs.Visits.{Tables, valueOf, rowList}
 use Rattle.visits.specs.Window.{window, follows, filled}
 use Rattle.visits.specs.Pending.{iterWords}
-use Rattle.walk.specs.Words.{scanWords}
+use Rattle.walk.specs.Words.{scanWords, wordsOf}
 use Rattle.walk.specs.Steps.{Ascend}
 use Rattle.rows.specs.Next.{Shows}
 use Rattle.eval.specs.declared.Evaluated.{Evaluated}
@@ -46,6 +47,23 @@ pub record Roomy (words initial selects iters slots : ℕ) : Type 0 where
   pub selects-room : maxSelects ≤ selects
   pub iters-room : iterWords * maxScans ≤ iters
   pub slots-room : maxSlots ≤ slots
+
+-- a plan whose counts are within the capacities, and room for what is written out of it
+pub record RoomFor (p : Plan) (words initial selects slots : ℕ) : Type 0 where
+  pub few-scans : p .«scan_count» ≤ maxScans
+  pub few-slots : p .«slot_count» ≤ maxSlots
+  pub few-selects : p .«select_count» ≤ maxSelects
+  pub words-fit : scanWords * p .«scan_count» ≤ words
+  pub initial-fit : p .«slot_count» ≤ initial
+  pub selects-fit : p .«select_count» ≤ selects
+  pub slots-fit : p .«slot_count» ≤ slots
+
+-- the plan stands in front of the buffers: its scans as words, what its slots hold before any scan, twice, and the numbers of its selects
+pub record WrittenOut (p : Plan) (words initial selects slots : List ℕ) : Type 0 where
+  pub words-are : take (scanWords * p .«scan_count») words ≡ wordsOf (scansOf p)
+  pub initial-are : take (p .«slot_count») initial ≡ valuesOf (slotsOf p)
+  pub selects-are : take (p .«select_count») selects ≡ numbersOf (selectsOf p)
+  pub slots-are : take (p .«slot_count») slots ≡ valuesOf (slotsOf p)
 
 -- what is shown of a plan's rows
 abbrev pub ShowsRows : Plan → Tables → ℕ → List ℕ → ℕ → Bool → List ℕ → Type 0

@@ -32,7 +32,7 @@ ghost use Rattle.visits.specs.Visits.{inputs, valueOf, visits};
 ghost use Rattle.visits.specs.Pending.{iterWords};
 ghost use Rattle.walk.specs.Words.{scanWords, indexNumber, wordsOf, scansIn, Laid};
 ghost use Rattle.walk.specs.Steps.{tablesOf, Ascend};
-ghost use Rattle.eval.specs.Evaluation.{valuesOf, numbersOf, Evaluable, Roomy, ShowsRows, evaluateOf, bufferAfter};
+ghost use Rattle.eval.specs.Evaluation.{valuesOf, numbersOf, Evaluable, Roomy, RoomFor, WrittenOut, ShowsRows, evaluateOf, bufferAfter};
 ghost use Rattle.rows.specs.Next.{Named, rowsAt, Shows};
 
 // Whether evaluation is refused; how many rows were written, and whether another follows.
@@ -143,27 +143,20 @@ fn evaluate_in<'a>(
     requires { ⌜ Roomy (length (now words)) (length (now initial)) (length (now selects)) (length (now iters)) (length (now slots)) ⌝ }
     ensures { λ r. ⌜ ShowsRows plan (tablesOf (now (aevt .entry)) (now (avet .entry)) (now (eavt .entry))) from (now (rows .entry)) (r .count) (r .more) (now (rows .exit)) ⌝ }
 {
-    let scan_count = plan.scan_count;
+    write_plan(plan, words, initial, selects, slots);
+    let word_count = SCAN_WORDS * plan.scan_count;
     let slot_count = plan.slot_count;
     let select_count = plan.select_count;
-    let scans = plan.scans;
-    let definitions = plan.slots;
-    let select = plan.select;
-    write_scans(scans, scan_count, words);
-    write_slots(definitions, slot_count, initial);
-    write_slots(definitions, slot_count, slots);
-    write_selects(select, select_count, selects);
-    let word_count = SCAN_WORDS * scan_count;
     run(
         from,
-        &words[0..word_count],
+        &words[..word_count],
         aevt,
         avet,
         eavt,
-        &initial[0..slot_count],
-        &selects[0..select_count],
+        &initial[..slot_count],
+        &selects[..select_count],
         iters,
-        &mut slots[0..slot_count],
+        &mut slots[..slot_count],
         rows,
     )
 }
@@ -220,6 +213,26 @@ fn clear(words: &mut [usize])
         words[j] = 0;
         j += 1;
     }
+}
+
+// Write a plan out: its scans as words, what its slots hold before any scan, twice, and the numbers of its selects.
+fn write_plan(
+    plan: Plan,
+    words: &mut [u64],
+    initial: &mut [u64],
+    selects: &mut [u64],
+    slots: &mut [u64],
+)
+    requires { ⌜ RoomFor plan (length (now words)) (length (now initial)) (length (now selects)) (length (now slots)) ⌝ }
+    ensures { λ r. ⌜ WrittenOut plan (now (words .exit)) (now (initial .exit)) (now (selects .exit)) (now (slots .exit)) ⌝ }
+{
+    let scans = plan.scans;
+    let definitions = plan.slots;
+    let select = plan.select;
+    write_scans(scans, plan.scan_count, words);
+    write_slots(definitions, plan.slot_count, initial);
+    write_slots(definitions, plan.slot_count, slots);
+    write_selects(select, plan.select_count, selects);
 }
 
 // Write the words of so many scans.
