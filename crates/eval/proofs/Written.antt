@@ -22,9 +22,7 @@ use Rattle.eval.specs.Evaluation.{valuesOf, numbersOf, Evaluable, Roomy,
 pub room-for : {p : Plan} {ts : Tables} {words initial selects iters slots : ℕ} → Evaluable p ts → Roomy words initial selects iters slots
     → RoomFor p words initial selects slots
 room-for ok room = record {
-  few-scans = ok .promised .few-scans;
-  few-slots = ok .promised .few-slots;
-  few-selects = ok .promised .few-selects;
+  counted = record { few-scans = ok .promised .few-scans; few-slots = ok .promised .few-slots; few-selects = ok .promised .few-selects };
   words-fit = omega (arith, ok .promised .few-scans, room .words-room);
   initial-fit = omega (arith, ok .promised .few-slots, room .initial-room);
   selects-fit = omega (arith, ok .promised .few-selects, room .selects-room);

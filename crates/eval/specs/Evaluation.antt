@@ -13,7 +13,7 @@ use Rattle.capacity.specs.Capacity.{maxScans, maxSlots, maxSelects}
 use Rattle.plan.specs.declared.Slot.{Slot}
 use Rattle.plan.specs.declared.SlotRecord.{SlotRecord}
 use Rattle.plan.specs.declared.Plan.{Plan}
-use Rattle.plan.specs.Plan.{scansOf, slotsOf, selectsOf}
+use Rattle.plan.specs.Plan.{scansOf, slotsOf, selectsOf, Counted}
 use Rattle.plan_check.specs.Check.{checkOf}
 use Rattle.plan_check.specs.Promised.{Promised}
 use Rattle.tables.specs.Check.{tablesFault}
@@ -50,9 +50,7 @@ pub record Roomy (words initial selects iters slots : ℕ) : Type 0 where
 
 -- a plan whose counts are within the capacities, and room for what is written out of it
 pub record RoomFor (p : Plan) (words initial selects slots : ℕ) : Type 0 where
-  pub few-scans : p .«scan_count» ≤ maxScans
-  pub few-slots : p .«slot_count» ≤ maxSlots
-  pub few-selects : p .«select_count» ≤ maxSelects
+  pub counted : Counted (p .«scan_count») (p .«slot_count») (p .«select_count»)
   pub words-fit : scanWords * p .«scan_count» ≤ words
   pub initial-fit : p .«slot_count» ≤ initial
   pub selects-fit : p .«select_count» ≤ selects

@@ -14,10 +14,10 @@ pub write-plan-spec : {M : Type 1} → statement M
 write-plan-spec =
     tie.close
     (tie.spec
-    (λ c κs. let room = c .before .before .before .before .before .before .before .before .pre in (room .few-scans, room .words-fit))
-    (λ c κs. let room = c .before .before .before .before .before .before .before .before .before .before .before .before .pre in (room .few-slots, room .initial-fit))
-    (λ c κs. let room = c .before .before .before .before .before .before .before .before .before .before .before .before .before .before .before .before .pre in (room .few-slots, room .slots-fit))
-    (λ c κs. let room = c .before .before .before .before .before .before .before .before .before .before .before .before .before .before .before .before .before .before .before .before .pre in (room .few-selects, room .selects-fit))
+    (λ c κs. let room = c .before .before .before .before .before .before .before .before .pre in (room .counted .few-scans, room .words-fit))
+    (λ c κs. let room = c .before .before .before .before .before .before .before .before .before .before .before .before .pre in (room .counted .few-slots, room .initial-fit))
+    (λ c κs. let room = c .before .before .before .before .before .before .before .before .before .before .before .before .before .before .before .before .pre in (room .counted .few-slots, room .slots-fit))
+    (λ c κs. let room = c .before .before .before .before .before .before .before .before .before .before .before .before .before .before .before .before .before .before .before .before .pre in (room .counted .few-selects, room .selects-fit))
     (λ c. c .before .before .before .before .before .before .before .before .before .before .before .before .before .before .write-scans .kept .1 .1 .0)
     (λ c. c .before .before .before .before .before .before .before .before .before .before .write-slots .kept .1 .1 .0)
     (λ c. c .before .before .write-selects .kept .1 .1 .0)
