@@ -1,17 +1,19 @@
 -- The answers of evaluation: the first refusal of the chain, or the window of the rows.
-use mathlib.Core.Path.{_≡_, refl}
-use mathlib.Core.Bool.{Bool, true, false}
+use mathlib.Core.Path.{_≡_, refl, sym, _∙_}
+use mathlib.Core.Bool.{Bool, true, false, false≢true}
 use mathlib.Core.List.{List}
 use Prim.Native.Nat.{ℕ}
 use native.Mathlib.Omega.{arith}
 use borrow.Author.Tests.{eq-eqb, ne-eqb}
 use lib.ListN.{length}
 use lib.Seq.{length-take-le}
+use lib.Dec.{eqb}
 use Rattle.capacity.specs.Capacity.{maxScans, maxSelects}
 use Rattle.refusal.specs.declared.Refusal.{Refusal}
 use Rattle.refusal.specs.declared.Verdict.{Verdict}
 use Rattle.refusal.specs.declared.Verdict.the-variants.{Fine, Refused}
 use Rattle.refusal.specs.Verdict.{refused}
+use Rattle.refusal.proofs.Fine.{refuse-fine, or-fine}
 use Rattle.tables.specs.Rows.{rowsOf, ascending}
 use Rattle.tables.specs.Check.{tablesFault}
 use Rattle.tables.proofs.Promises.{tables-pass}
@@ -20,7 +22,7 @@ use Rattle.plan.specs.declared.Index.the-variants.{Aevt, Avet, Eavt}
 use Rattle.plan_check.specs.Check.{checkOf}
 use Rattle.plan_check.proofs.Promises.{promises}
 use Rattle.visits.specs.Visits.{Tables}
-use Rattle.walk.specs.Steps.{tablesOf, Ascend}
+use Rattle.eval.specs.Steps.{tablesOf, Ascend}
 use Rattle.eval.specs.declared.Evaluated.{Evaluated}
 use Rattle.eval.specs.Evaluation.{Evaluable, ShowsRows, evaluationFault, evaluateOf, bufferAfter}
 
@@ -52,7 +54,7 @@ module _ (p : Plan) (ts : Tables) where
     shown-answer count more buffer′ e s = (rw (e, s .count-is, s .more-is) refl, rw e (s .buffer-is))
 
 -- what has passed the checks can be evaluated
-pub evaluable : (p : Plan) (aevt avet eavt : List ℕ) → checkOf p ≡ Fine → (p .«scan_count» ≡ 0 → ⊥) → tablesFault aevt avet eavt ≡ Fine
+evaluable : (p : Plan) (aevt avet eavt : List ℕ) → checkOf p ≡ Fine → (p .«scan_count» ≡ 0 → ⊥) → tablesFault aevt avet eavt ≡ Fine
     → length (p .scans) ≡ maxScans → length (p .select) ≡ maxSelects → Evaluable p (tablesOf aevt avet eavt)
 evaluable p aevt avet eavt e z f scans select =
     let q = promises p e in
@@ -68,3 +70,11 @@ evaluable p aevt avet eavt e z f scans select =
     by-index a b c Aevt = a
     by-index a b c Avet = b
     by-index a b c Eavt = c
+
+pub fine-evaluable : (p : Plan) (aevt avet eavt : List ℕ) → evaluationFault p (tablesOf aevt avet eavt) ≡ Fine → length (p .scans) ≡ maxScans
+    → length (p .select) ≡ maxSelects → Evaluable p (tablesOf aevt avet eavt)
+unfolding evaluationFault
+fine-evaluable p aevt avet eavt e scans select =
+    let a = or-fine (checkOf p) _ e in
+    let b = or-fine _ (tablesFault aevt avet eavt) (a .1) in
+    evaluable p aevt avet eavt (a .0) (λ z. absurd (false≢true (sym (refuse-fine (eqb (p .«scan_count») 0) 28 0 (b .0)) ∙ eq-eqb (p .«scan_count») 0 z))) (b .1) scans select

@@ -1,3 +1,12 @@
+pub mod Words
+pub mod Scans
+pub mod Turn
+pub mod Again
+pub mod Advance
+pub mod Put
+pub mod Passing
+pub mod Fill
+pub mod Ends
 pub mod Start
 pub mod Write
 pub mod Written

@@ -13,8 +13,8 @@ use Rattle.visits.specs.Visits.{Tables, tableOf, visited, visits, slotsAt}
 use Rattle.visits.specs.Sound.{Agree}
 use Rattle.visits.specs.Pending.{iterWords, position, ending, current, currentSlots}
 use Rattle.visits.proofs.Pending.{pending-started}
-use Rattle.walk.specs.Steps.{Ascend, keyOf, Found, Ready}
-use Rattle.rows.specs.Next.{innermost, remaining}
+use Rattle.eval.specs.Steps.{Ascend, keyOf, Found, Ready}
+use Rattle.eval.specs.Next.{innermost, remaining}
 
 -- a list of zeros holds 0 everywhere
 zeros : (n j : ℕ) → getD {A = ℕ} (replicate n 0) j 0 ≡ 0

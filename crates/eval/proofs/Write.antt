@@ -8,7 +8,7 @@ use lib.ListN.{length, getD, take, drop, set, length-append}
 use lib.Seq.{sets-eq, take-suc, take-at, length-take-le}
 use Rattle.plan.specs.declared.Scan.{Scan}
 use Rattle.plan.specs.Plan.{zeroScan}
-use Rattle.walk.specs.Words.{scanWords, wordsOf}
+use Rattle.eval.specs.Words.{scanWords, wordsOf}
 
 -- five words, one after the other
 pub write-five : (l : List ℕ) (at a b c d e : ℕ) → at + scanWords ≤ length l

@@ -13,9 +13,9 @@ use Rattle.plan.specs.Plan.{scansOf, slotsOf, selectsOf, zeroSlot}
 use Rattle.visits.specs.Visits.{Tables, valueOf, visits, slotsAt, initialSlots, rowList, selected}
 use Rattle.visits.specs.Pending.{iterWords}
 use Rattle.visits.proofs.Steady.{promised-sound}
-use Rattle.walk.specs.Words.{wordsOf, scansIn, Laid}
-use Rattle.walk.proofs.Words.{scans-back}
-use Rattle.rows.specs.Next.{Named, selectedBy, rowsAt, Shows}
+use Rattle.eval.specs.Words.{wordsOf, scansIn, Laid}
+use Rattle.eval.proofs.Words.{scans-back}
+use Rattle.eval.specs.Next.{Named, selectedBy, rowsAt, Shows}
 use Rattle.eval.specs.Evaluation.{valuesOf, numbersOf, Evaluable, Roomy, RoomFor}
 
 -- a plan that can be evaluated has room in a state that has room for any

@@ -20,9 +20,9 @@ use Rattle.tables.specs.Check.{tablesFault}
 use Rattle.visits.specs.Visits.{Tables, valueOf, rowList}
 use Rattle.visits.specs.Window.{window, follows, filled}
 use Rattle.visits.specs.Pending.{iterWords}
-use Rattle.walk.specs.Words.{scanWords, wordsOf}
-use Rattle.walk.specs.Steps.{Ascend}
-use Rattle.rows.specs.Next.{Shows}
+use Rattle.eval.specs.Words.{scanWords, wordsOf}
+use Rattle.eval.specs.Steps.{Ascend}
+use Rattle.eval.specs.Next.{Shows}
 use Rattle.eval.specs.declared.Evaluated.{Evaluated}
 
 -- what slots hold before any scan

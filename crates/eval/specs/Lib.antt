@@ -1,1 +1,4 @@
+pub mod Words
+pub mod Steps
+pub mod Next
 pub mod Evaluation

@@ -21,7 +21,7 @@ use Rattle.search.specs.Search.{orders, searchOf}
 use Rattle.tables.specs.Rows.{flat}
 use Rattle.tables.specs.Check.{sameRow}
 use Rattle.visits.specs.Visits.{Tables, inputs, rowList}
-use Rattle.walk.specs.Words.{indexNumber}
+use Rattle.eval.specs.Words.{indexNumber}
 use Rattle.eval.specs.Evaluation.{evaluateOf, bufferAfter}
 use Rattle.examples.specs.Bench.{e, reversed, alone, pair, turned, triples, constantsOnly, outOuts}
 

@@ -26,7 +26,7 @@ use Rattle.plan_text.proofs.Answers.{text-fits}
 use Rattle.visits.specs.Visits.{Tables}
 use Rattle.eval.specs.declared.Evaluated.{Evaluated}
 use Rattle.eval.specs.Evaluation.{evaluationFault, evaluateOf}
-use Rattle.walk.specs.Steps.{tablesOf}
+use Rattle.eval.specs.Steps.{tablesOf}
 use Rattle.asked.specs.declared.Parts.{Parts}
 use Rattle.asked.specs.Parts.{partsOf, itemsOf, areKinds, areBytes, insideOf}
 use Rattle.asked.specs.Asked.{bytesAfter}

@@ -13,7 +13,6 @@ ghost use Rattle.plan.specs.Plan.{emptyPlan};
 ghost use Rattle.reply.specs.Lines.{refusalLine, costLine};
 ghost use Rattle.plan_text.specs.Text.{textOf};
 ghost use Rattle.plan_text.specs.Answer.{textFault};
-ghost use Rattle.walk.specs.Steps.{tablesOf};
 ghost use Rattle.eval.specs.Evaluation.{evaluationFault};
 ghost use Rattle.opening.specs.Question.{namesOf, isQuestion, givenEnds, endsOf, tablesIn};
 ghost use Rattle.opening.specs.Opening.{costBytes, refusalText, outside, showingFault, openedWith, openingOf, Line, Opens};
@@ -210,21 +209,12 @@ fn evaluation_fault(words: &[u64], plan: Plan) -> Verdict
     let aevt = parts.aevt;
     let avet = parts.avet;
     let eavt = parts.eavt;
-    fault_over(
+    eval::check(
         plan,
         asked::items(words, aevt.at, aevt.length),
         asked::items(words, avet.at, avet.length),
         asked::items(words, eavt.at, eavt.length),
     )
-}
-
-// Evaluated for no rows.
-fn fault_over<'a>(plan: Plan, aevt: &'a [u64], avet: &'a [u64], eavt: &'a [u64]) -> Verdict
-    ensures { λ r. ⌜ r ≡ evaluationFault plan (tablesOf (now (aevt .entry)) (now (avet .entry)) (now (eavt .entry))) ⌝ }
-{
-    let mut none = [0u64; 0];
-    let evaluated = eval::evaluate(plan, aevt, avet, eavt, 0, &mut none);
-    evaluated.verdict
 }
 
 fn write_opening(plan: Plan, cost: u64, names: &[u8], ends: &[usize], out: &mut [u8]) -> usize

@@ -1,0 +1,58 @@
+-- A step of the innermost scan takes the next visit: where every scan stands no slot is stale.
+use mathlib.Core.Path.{_≡_, refl, sym, ap, _∙_, subst}
+use mathlib.Core.Bool.{Bool, true}
+use mathlib.Core.List.{List}
+use Prim.Native.Nat.{ℕ, suc, _-_, _/_}
+use native.Mathlib.Omega.{arith}
+use lib.ListN.{length, drop}
+use lib.Seq.{take-length, drop-length, ext-getD}
+use Rattle.plan.specs.declared.Scan.{Scan}
+use Rattle.plan_check.specs.Check.{written}
+use Rattle.visits.specs.Visits.{Tables, slotsAt}
+use Rattle.visits.specs.Sound.{Sound, Agree}
+use Rattle.visits.specs.Pending.{current, currentSlots}
+use Rattle.visits.proofs.Pending.{current-slots-length, agree-below}
+use Rattle.eval.specs.Words.{scanWords, scansIn, Laid}
+use Rattle.eval.specs.Steps.{Ready, Stepped}
+use Rattle.eval.proofs.Words.{laid-length}
+use Rattle.eval.specs.Next.{innermost, Advanced}
+
+module _ {ts : Tables} {ss : List Scan} {initial iters slots : List ℕ} (r : Ready ts ss initial iters slots (innermost ss)) where
+  abbrev last : ℕ
+  last = innermost ss
+
+  suc-last : suc last ≡ length ss
+  suc-last = omega (arith, r .low)
+
+  module _ (ok : Sound (length slots) ss) (iters′ slots′ : List ℕ) (long : length iters′ ≡ length iters) (wide : length slots′ ≡ length slots) where
+    -- the slots are the visit's
+    all-agree : Agree (drop (suc last) ss) slots′ (currentSlots ts ss initial iters′ (suc last)) → slots′ ≡ slotsAt ts ss initial (current iters′ (length ss))
+    unfolding written
+    all-agree a =
+        let h : Agree (drop (length ss) ss) slots′ (currentSlots ts ss initial iters′ (length ss)) =
+        subst (λ (n : ℕ). Agree (drop n ss) slots′ (currentSlots ts ss initial iters′ n)) suc-last a in
+        let whole : length slots′ ≡ length (currentSlots ts ss initial iters′ (length ss)) =
+        wide ∙ r .slots-long ∙ sym (current-slots-length ts ss initial ok iters′ (length ss) (omega arith)) in
+        let same : slots′ ≡ currentSlots ts ss initial iters′ (length ss) = ext-getD 0 slots′ _ whole (λ x _. h .same x (rw (drop-length ss) refl)) in
+        same ∙ ap (λ (l : List Scan). slotsAt ts l initial (current iters′ (length ss))) (take-length ss)
+
+    ready-again : Stepped ts ss initial iters last true iters′ slots′ → Ready ts ss initial iters′ slots′ last
+    ready-again v = record {
+      low = r .low;
+      iters-long = omega (arith, r .iters-long);
+      slots-long = wide ∙ r .slots-long;
+      ends = v .ends;
+      live = λ j l _. agree-below ts ss initial ok iters′ slots′ (suc last) (r .low) (v .yes-slots refl) j (omega arith);
+    }
+
+    pub advanced : (more : Bool) → Stepped ts ss initial iters last more iters′ slots′ → Advanced ts ss initial iters more iters′ slots′
+    advanced more v = record {
+      next = λ e. rw suc-last at (v .yes-next e);
+      slots-are = λ e. all-agree (v .yes-slots e);
+      ready = λ e. ready-again (rw e at v);
+      no-more = λ e. rw suc-last at (v .no-more e);
+    }
+
+-- the innermost scan's number, from the number of words
+pub innermost-is : {ws : List ℕ} {slots : ℕ} → Laid ws slots → length ws / scanWords - 1 ≡ innermost (scansIn ws)
+innermost-is h = let e = laid-length h in omega arith

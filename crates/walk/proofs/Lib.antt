@@ -1,5 +1,0 @@
-pub mod Words
-pub mod Scans
-pub mod Turn
-pub mod Again
-pub mod OneAnswer
