@@ -6,8 +6,9 @@ use mathlib.Core.List.{List, _∷_}
 use Prim.Native.Nat.{ℕ, suc, _+_, _*_, _-_, _<_, _≤_}
 use native.Mathlib.Omega.{arith}
 use native.Mathlib.Nat.{eq-or-lt-of-le}
-use lib.ListN.{length, getD, set, take, drop}
-use lib.Seq.{getD-set-same, getD-set-other, drop-cons}
+use lib.ListN.{length, getD, set, take, drop, length-drop}
+use lib.Seq.{getD-set-same, getD-set-other, drop-cons, take-take, length-take-le}
+use Rattle.datom.specs.Fact.{words}
 use Rattle.tables.specs.Rows.{count, row}
 use Rattle.plan.specs.declared.Scan.{Scan}
 use Rattle.plan.specs.Plan.{zeroScan}
@@ -58,6 +59,25 @@ module _ {ts : Tables} {ss : List Scan} {initial iters₀ slots₀ : List ℕ} {
       let agree : Agree (s ∷ drop (suc i) ss) slots (currentSlots ts ss initial iters i) = rw (drop-cons ss i zeroScan low) at (u .ready .live i (omega arith) l) in
       rw (f, e, ← (standing-stood ts s (ok i low) k slots), current-step ts ss initial next i low, getD-set-same iters at (k + 1) 0 long, back, same)
       (standing-agree ts s (ok i low) k refl (current-slots-length ts ss initial ok iters i (omega arith) ∙ sym (u .ready .slots-long)) agree)
+
+  -- the rows that are left lie in the scan's table, and the first of them is the one that it takes
+  module _ (t : List ℕ) (e : t ≡ tableOf ts (s .index)) where
+    pub left-in : words * ending iters i ≤ length t
+    left-in = let h : ending iters i ≤ count t = rw e (u .ready .ends i (omega arith)) in omega arith
+
+    module _ (l : position iters i < ending iters i) where
+      abbrev left : List ℕ
+      left = take (words * ending iters i - words * position iters i) (drop (words * position iters i) t)
+
+      left-length : length left ≡ words * ending iters i - words * position iters i
+      left-length = length-take-le _ (drop (words * position iters i) t) (simp length-drop (omega (arith, left-in)))
+
+      pub left-some : 0 < count left
+      left-some = rw left-length (omega arith)
+
+      pub left-first : row left 0 ≡ row t (position iters i)
+      unfolding row
+      left-first = take-take words (words * ending iters i - words * position iters i) (drop (words * position iters i) t) (omega arith)
 
   -- a row is left
   pub turn-take : Sound (length slots) ss → position iters i < ending iters i → (t slots′ : List ℕ) → t ≡ tableOf ts (s .index)

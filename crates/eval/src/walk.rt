@@ -60,9 +60,10 @@ pub(crate) fn increment<'a>(
     let table = get_table(aevt, avet, eavt, words[SCAN_WORDS * i]);
     loop {
         let position = iters[ITER_WORDS * i];
-        if position < iters[ITER_WORDS * i + 1] {
+        let end = iters[ITER_WORDS * i + 1];
+        if position < end {
             iters[ITER_WORDS * i] = position + 1;
-            fill_slots(i, position, words, table, slots);
+            fill_slots(i, words, &table[WORDS * position..WORDS * end], slots);
             return true;
         }
         if i == 0 {
@@ -93,25 +94,25 @@ pub(crate) fn get_iter(i: usize, words: &[u64], table: &[u64], slots: &[u64]) ->
     get_scan_bounds(table, inputs, attribute, first, second)
 }
 
-// Return the positions that determine the range to scan over: those of the rows that begin with the key, the first `inputs`
-// of the three words, which the range finder hands on as a part of the table. There is no largest datom here, so the range of the
-// key 2^64 - 1 is found too.
+// Return the positions that determine the range to scan over: where the rows that begin with the key, the first `inputs` of the three
+// words, begin and end. The range finder hands them on as a part of the table. There is no largest datom here, so the range of the key
+// 2^64 - 1 is found too.
 fn get_scan_bounds(table: &[u64], inputs: usize, first: u64, second: u64, third: u64) -> Iter
     ensures { λ r. ⌜ Found (now (table .entry)) (key inputs first second third) (r .position) (r .end) ⌝ }
 {
-    let position = tables::bound(table, 0, inputs, first, second, third, false);
-    let rows = tables::range(table, position, inputs, first, second, third);
+    let mut position: usize = 0;
+    let rows = tables::range(table, inputs, first, second, third, &mut position);
     Iter {
         position: position,
         end: position + rows.len() / WORDS,
     }
 }
 
-// Store what row `at` of the table that scan i runs over holds for the slots that the scan writes.
-fn fill_slots(i: usize, at: usize, words: &[u64], table: &[u64], slots: &mut [u64])
+// Store what the first of the rows that scan i has left holds for the slots that the scan writes.
+fn fill_slots(i: usize, words: &[u64], rows: &[u64], slots: &mut [u64])
     requires { ⌜ LiesAt (now words) (length (now slots)) i ⌝ }
-    requires { ⌜ at < count (now table) ⌝ }
-    ensures { λ r. ⌜ now (slots .exit) ≡ filledFrom (row (now (table .entry)) at) (getD (scansIn (now (words .entry))) i zeroScan) (now (slots .entry)) ⌝ }
+    requires { ⌜ 0 < count (now rows) ⌝ }
+    ensures { λ r. ⌜ now (slots .exit) ≡ filledFrom (row (now (rows .entry)) 0) (getD (scansIn (now (words .entry))) i zeroScan) (now (slots .entry)) ⌝ }
 {
     let inputs = words[SCAN_WORDS * i + 1];
     if inputs == 2 {
@@ -121,11 +122,11 @@ fn fill_slots(i: usize, at: usize, words: &[u64], table: &[u64], slots: &mut [u6
     let first = words[SCAN_WORDS * i + 3] as usize;
     let second = words[SCAN_WORDS * i + 4] as usize;
     if inputs == 0 {
-        slots[first] = table[WORDS * at + 1];
-        slots[second] = table[WORDS * at + 2];
+        slots[first] = rows[1];
+        slots[second] = rows[2];
         return;
     }
-    slots[second] = table[WORDS * at + 2];
+    slots[second] = rows[2];
 }
 
 // The table with this number.

@@ -2,6 +2,7 @@
 // (crate `evaluations`), or 1 and a query with room (crate `answers`), or 2: the check of the tables alone, or 3 and a key: the table (0
 // aevt, 1 avet, 2 eavt), how many of its words count, and three words. Written are the numbers of the first row that begins with the key
 // and of the one past the last, whether its three words are a row, and those rows.
+use datom::WORDS;
 use given::TABLE_WORDS;
 use written::put;
 use written::put_after;
@@ -135,16 +136,16 @@ fn put_key(text: &[u8], start: usize, table: &[u64]) -> usize {
 }
 
 fn put_range(table: &[u64], inputs: usize, first: u64, second: u64, third: u64) {
-    let low = tables::bound(table, 0, inputs, first, second, third, false);
-    let high = tables::bound(table, low, inputs, first, second, third, true);
+    let mut low: usize = 0;
+    let rows = tables::range(table, inputs, first, second, third, &mut low);
     put(b"key");
     put_after(low as u64);
-    put_after(high as u64);
+    put_after((low + rows.len() / WORDS) as u64);
     if tables::is_row(table, first, second, third) {
         put(b", a row:");
     } else {
         put(b", no row:");
     }
-    written::put_words(tables::range(table, low, inputs, first, second, third));
+    written::put_words(rows);
     put(b"\n");
 }

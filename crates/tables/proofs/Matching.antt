@@ -72,28 +72,18 @@ module _ (t ks : List ℕ) (low high : ℕ) (first : Bound t 0 ks false low) (la
       (λ k g h. begins-passes (row t k) ks ∙ simp (last .passed asc k g h, first .stopped asc k g (omega (arith, first .at-most, last .at-most))))
       (λ k g h. begins-passes (row t k) ks ∙ simp (last .stopped asc k g h))
 
--- and their words, a part of the table
-pub range-matches : (t ks r : List ℕ) (low : ℕ) → Bound t 0 ks false low → Range t low ks r → ascending (rowsOf t) ≡ true → r ≡ flat (map (row t) (matching t ks))
-range-matches t ks r low first found asc =
-    let e : words * (low + length r / words - low) ≡ length r = omega (arith, found .whole) in
-    found .part ∙ rw (bounds-match t ks low (low + length r / words) first (found .ends) asc, flat-rows t low (low + length r / words - low), e)
-
--- the rows from a number on that is past the table, and from one on up to a bound
-pub range-past : (t ks : List ℕ) (i : ℕ) → count t ≤ i → Range t i ks []
-range-past t ks i h = record {
-  part = refl;
-  whole = refl;
-  ends = record {
-    at-least = omega arith;
-    at-most = omega arith;
-    passed = λ _ k g l. absurd (omega arith);
-    stopped = λ _ k g l. absurd (omega arith);
-  };
-}
-
-pub range-upto : (t ks : List ℕ) (i to : ℕ) → i < count t → Bound t i ks true to → Range t i ks (take (words * to - words * i) (drop (words * i) t))
-range-upto t ks i to h b =
-    let n : length (take (words * to - words * i) (drop (words * i) t)) ≡ words * to - words * i =
-    length-take-le _ (drop (words * i) t) (simp length-drop (omega (arith, b .at-most))) in
-    let e : i + (words * to - words * i) / words ≡ to = omega (arith, b .at-least) in
-    record { part = rw n refl; whole = rw n (omega (arith, b .at-least)); ends = rw (n, e) b }
+-- and their words, the part of the table between the bounds
+pub range-found : (t ks : List ℕ) (low high : ℕ) → Bound t 0 ks false low → Bound t low ks true high → Range t ks (take (words * high - words * low) (drop (words * low) t)) low
+range-found t ks low high first last =
+    let r : List ℕ = take (words * high - words * low) (drop (words * low) t) in
+    let n : length r ≡ words * high - words * low = length-take-le _ (drop (words * low) t) (simp length-drop (omega (arith, first .at-most, last .at-most))) in
+    let many : length r / words ≡ high - low = rw n (omega (arith, last .at-least)) in
+    let all : words * (high - low) ≡ words * high - words * low = omega arith in
+    record {
+      starts = first;
+      whole = rw n (omega (arith, last .at-least));
+      within = rw many (omega (arith, first .at-most, last .at-least, last .at-most));
+      part = rw n refl;
+      numbers = λ asc. rw many (bounds-match t ks low high first last asc);
+      rows = λ asc. rw (bounds-match t ks low high first last asc, flat-rows t low (high - low), all) refl;
+    }

@@ -1,13 +1,11 @@
 -- No second answer fits the promises of this crate; those of `bound`, `range` and `is_row` say which answer only of an ascending table.
-use mathlib.Core.Path.{_≡_, sym, ap, _∙_}
+use mathlib.Core.Path.{_≡_, sym, _∙_}
 use mathlib.Core.Logic.{⊎-elim}
-use mathlib.Core.Bool.{Bool, true}
+use mathlib.Core.Bool.{Bool, true, false}
 use mathlib.Core.List.{List}
-use Prim.Native.Nat.{ℕ, _*_, _≤_, _<_}
+use Prim.Native.Nat.{ℕ, _≤_, _<_}
 use native.Mathlib.Omega.{arith}
 use native.Mathlib.Nat.{eq-or-lt-of-le}
-use lib.ListN.{length, take, drop}
-use Rattle.datom.specs.Fact.{words}
 use Rattle.refusal.specs.declared.Verdict.{Verdict}
 use Rattle.refusal.proofs.OneAnswer.{one-answer}
 use Rattle.tables.specs.Rows.{rowsOf, ascending, Bound, Range}
@@ -36,8 +34,6 @@ module _ (t : List ℕ) (asc : ascending (rowsOf t) ≡ true) where
       (λ (l : r′ ≤ r). ⊎-elim (λ (q : r′ ≡ r). sym q) (λ (q : r′ < r). absurd (no-less i ks past r′ r b′ b q)) (eq-or-lt-of-le l))
       (lt-or-ge r r′)
 
-  -- `range`
-  pub range-one : (i : ℕ) (ks r r′ : List ℕ) → Range t i ks r → Range t i ks r′ → r ≡ r′
-  range-one i ks r r′ p q =
-      let e : length r ≡ length r′ = omega (arith, bound-one i ks true _ _ (p .ends) (q .ends), p .whole, q .whole) in
-      p .part ∙ ap (λ (n : ℕ). take n (drop (words * i) t)) e ∙ sym (q .part)
+  -- `range`: the part, and where it begins
+  pub range-one : (ks r r′ : List ℕ) (i i′ : ℕ) → Range t ks r i → Range t ks r′ i′ → (r ≡ r′) × (i ≡ i′)
+  range-one ks r r′ i i′ p q = (p .rows asc ∙ sym (q .rows asc), bound-one 0 ks false i i′ (p .starts) (q .starts))

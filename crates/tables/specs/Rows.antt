@@ -72,8 +72,12 @@ pub record Bound (t : List ℕ) (i : ℕ) (ks : List ℕ) (past : Bool) (r : ℕ
   pub passed : ascending (rowsOf t) ≡ true → (k : ℕ) → i ≤ k → k < r → passes past (row t k) ks ≡ true
   pub stopped : ascending (rowsOf t) ≡ true → (k : ℕ) → r ≤ k → k < count t → passes past (row t k) ks ≡ false
 
--- r holds the words of the rows from number i on, up to the first that neither comes before a key nor begins with it
-pub record Range (t : List ℕ) (i : ℕ) (ks r : List ℕ) : Type 0 where
-  pub part : r ≡ take (length r) (drop (words * i) t)
+-- r is the part of a table that holds its rows from number i on that begin with a key. i is the first row that does not come before the
+-- key, and of an ascending table the part holds the rows that begin with it, all of them and no other
+pub record Range (t ks r : List ℕ) (i : ℕ) : Type 0 where
+  pub starts : Bound t 0 ks false i
   pub whole : length r % words ≡ 0
-  pub ends : Bound t i ks true (i + length r / words)
+  pub within : i + length r / words ≤ count t
+  pub part : r ≡ take (length r) (drop (words * i) t)
+  pub numbers : ascending (rowsOf t) ≡ true → matching t ks ≡ span i (length r / words)
+  pub rows : ascending (rowsOf t) ≡ true → r ≡ flat (map (row t) (matching t ks))

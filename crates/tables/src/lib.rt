@@ -100,28 +100,27 @@ pub fn is_row(table: &[u64], first: u64, second: u64, third: u64) -> bool
     }
 }
 
-// The rows from `from` on that come before the key or begin with it, the first `inputs` of the three words, as a part of the table that
-// starts in its middle. From the first row on that does not come before the key, these are the rows that begin with it.
+// The rows that begin with the key, the first `inputs` of the three words, as a part of the table that starts in its middle. `begin`
+// then holds the number of the part's first row; where no row begins with the key, of the first that comes after it.
 pub fn range<'a>(
     table: &'a [u64],
-    from: usize,
     inputs: usize,
     first: u64,
     second: u64,
     third: u64,
+    begin: &mut usize,
 ) -> &'a [u64]
-    ensures { λ r. ⌜ Range (now (table .entry)) from (key inputs first second third) (now r) ⌝ }
+    ensures { λ r. ⌜ Range (now (table .entry)) (key inputs first second third) (now r) (now (begin .exit)) ⌝ }
 {
-    if table.len() / WORDS <= from {
-        return &table[..0];
-    }
+    let from = bound(table, 0, inputs, first, second, third, false);
     let to = bound(table, from, inputs, first, second, third, true);
+    *begin = from;
     &table[WORDS * from..WORDS * to]
 }
 
 // By halves: the first row from `from` on that does not come before the key, or, with `past`, that comes after all rows that begin
 // with it.
-pub fn bound(
+fn bound(
     table: &[u64],
     from: usize,
     inputs: usize,

@@ -1,6 +1,6 @@
--- `range` meets its contract: its rows end at the bound.
+-- `range` meets its contract: its rows are those between the two bounds.
 use borrow.Author.Needs.{needs}
-use Rattle.tables.proofs.Matching.{range-past, range-upto}
+use Rattle.tables.proofs.Matching.{range-found}
 use Rattle.tables.proofs.range.Statement.{statement}
 use Rattle.tables.proofs.range.Tie as tie
 
@@ -8,8 +8,7 @@ pub range-spec : {M : Type 1} → statement M
 range-spec =
     tie.close
     (tie.spec
-    (λ c. search needs)
-    (λ c. range-past _ _ _ (c .before .if1 .taken))
+    (λ c κs. search needs)
     (λ c κs. search needs)
     (λ c. search needs)
     (λ c. search needs)
@@ -17,4 +16,4 @@ range-spec =
     (λ c. search needs)
     (λ c. search needs)
     (λ c. search needs)
-    (λ c. range-upto _ _ _ _ (c .before .before .if1 .left) (c .before .bound .ensures)))
+    (λ c. range-found _ _ _ _ (c .before .before .bound .ensures) (c .before .bound2 .ensures)))

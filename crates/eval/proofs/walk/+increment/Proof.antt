@@ -1,18 +1,21 @@
 -- `increment` meets its contract: each turn of its loop is a law of Turn. The scan number falls at the call; the visits outside that are
 -- still to come fall in the loop.
-use mathlib.Core.Path.{_∙_}
-use Prim.Native.Nat.{ℕ, _<_, _+_, _*_}
+use mathlib.Core.Path.{_≡_, _∙_}
+use Prim.Native.Nat.{ℕ, _<_, _≤_, _*_}
 use native.Mathlib.Omega.{arith}
 use borrow.Author.Needs.{needs}
 use borrow.Author.Tests.{not-true, not-false}
 use borrow.Fn.Kinds.{In}
 use borrow.Fn.PlainCycle.{Measures, is, falls, and}
-use lib.ListN.{length, length-set}
-use Rattle.visits.specs.Pending.{iterWords, pending}
+use lib.ListN.{length, getD, length-set}
+use Rattle.datom.specs.Fact.{words}
+use Rattle.plan.specs.Plan.{zeroScan}
+use Rattle.visits.specs.Visits.{tableOf}
+use Rattle.visits.specs.Pending.{ending, pending}
 use Rattle.eval.specs.Words.{scansIn}
 use Rattle.eval.specs.Steps.{tablesOf}
 use Rattle.eval.proofs.Words.{laid-lies, table-is}
-use Rattle.eval.proofs.Turn.{Turn, turn-start, turn-take, turn-end, turn-ready, turn-no}
+use Rattle.eval.proofs.Turn.{Turn, turn-start, left-in, left-some, left-first, turn-take, turn-end, turn-ready, turn-no}
 use Rattle.eval.proofs.Again.{turn-again, turn-less}
 use Rattle.eval.proofs.walk.increment.Reads as increment
 use Rattle.eval.proofs.walk.increment.Kinds as increment-kinds
@@ -39,6 +42,46 @@ Inv i words aevt avet eavt initial iters₀ slots₀ table iters slots =
 
 abbrev μ : increment-lts.MeasureT-loop
 μ i words aevt avet eavt initial iters₀ slots₀ table iters slots = length (pending (tablesOf aevt avet eavt) (scansIn words) initial iters i)
+
+-- where a row is left
+abbrev Taking : ℕ → Type 0
+Taking t = increment-lts.Then1 (
+  get-table-reads.Asked,
+  get-table-reads.Learnt,
+  fill-slots-reads.Asked,
+  fill-slots-reads.Learnt,
+  increment-below t,
+  increment.Post,
+  get-iter-reads.Asked,
+  get-iter-reads.Learnt,
+)
+    (increment-at t)
+    increment.Post
+    Inv
+    μ
+
+module _ {t : ℕ} (c : Taking t) where
+  abbrev start : increment-lts.Start (
+    get-table-reads.Asked,
+    get-table-reads.Learnt,
+    fill-slots-reads.Asked,
+    fill-slots-reads.Learnt,
+    increment-below t,
+    increment.Post,
+    get-iter-reads.Asked,
+    get-iter-reads.Learnt,
+  )
+      (increment-at t)
+      increment.Post
+      Inv
+      μ
+  start = c .before .before .before .before .before .before .before .before .before .before .before .before .before
+
+  its-table : c .before .before .before .before .get-table .result .now ≡ tableOf (tablesOf (start .args .aevt .now) (start .args .avet .now) (start .args .eavt .now)) (getD (scansIn (start .args .words .now)) (start .args .i) zeroScan .index)
+  its-table = table-is (laid-lies (start .pre .1 .0) (start .args .i) (c .before .before .before .loop .inv .ready .low)) _ _ (c .before .before .before .before .get-table .ensures)
+
+  its-rows : words * ending (c .before .before .before .loop .iters) (start .args .i) ≤ length (c .before .before .before .before .get-table .result .now)
+  its-rows = left-in (c .before .before .before .loop .inv) _ its-table
 
 pub +increment-spec : {M : Type 1} → statement M
 +increment-spec = close μ-increment λ t. increment-lts.spec (
@@ -73,22 +116,27 @@ pub +increment-spec : {M : Type 1} → statement M
     (λ c. omega (arith, c .before .loop .inv .ready .low, c .before .loop .inv .ready .iters-long))
     (λ c. omega (arith, c .before .loop .inv .ready .low, c .before .loop .inv .ready .iters-long))
     (λ c. omega (arith, c .before .before .loop .inv .ready .low, c .before .before .loop .inv .ready .iters-long))
-    (λ c. omega (arith, c .before .slice-known4 .given (iterWords * c .before .before .before .before .before .before .before .before .before .before .before .before .before .args .i + 1), c .if1 .taken))
+    (λ c. omega (arith, its-rows c, c .if1 .taken, c .before .before .before .before .get-table .ok))
     (λ c. omega (arith, c .before .before .before .loop .inv .ready .low, c .before .before .before .loop .inv .ready .iters-long))
     (λ c. omega (arith, c .before .before .before .loop .inv .ready .low, c .before .before .before .loop .inv .ready .iters-long))
     (λ c. omega (arith, c .before .before .before .loop .inv .ready .low, c .before .before .before .loop .inv .ready .iters-long))
+    (λ c. omega (arith, its-rows c, c .if1 .taken, c .before .before .before .before .get-table .ok))
+    (λ c. omega (arith, its-rows c, c .if1 .taken, c .before .before .before .before .get-table .ok))
+    (λ c. omega (arith, its-rows c, c .if1 .taken, c .before .before .before .before .get-table .ok))
+    (λ c. omega (arith, its-rows c, c .if1 .taken, c .before .before .before .before .get-table .ok))
+    (λ c. omega (arith, its-rows c, c .if1 .taken, c .before .before .before .before .get-table .ok))
+    (λ c. omega (arith, its-rows c, c .if1 .taken, c .before .before .before .before .get-table .ok))
     (λ c κs.
-    let start = c .before .before .before .before .before .before .before .before .before .before .before .before .before .before in
-    let turn = c .before .before .before .before .loop .inv in
-    let lies = laid-lies (start .pre .1 .0) (start .args .i) (turn .ready .low) in
-    (rw (turn .slots-same) lies, rw (table-is lies _ _ (c .before .before .before .before .before .get-table .ensures)) (omega (arith, c .before .if1 .taken, turn .ready .ends (start .args .i) (omega arith)))))
-    (λ c. length-set (c .before .before .before .before .before .before .before .loop .iters) _ _ ∙ c .before .before .before .before .before .before .before .loop .inv .iters-same)
-    (λ c. c .before .before .fill-slots .kept .1 .1 .1 .1 .0 ∙ c .before .before .before .before .before .before .before .loop .inv .slots-same)
+    let taking = c .before .before in
+    let turn = taking .before .before .before .loop .inv in
+    (rw (turn .slots-same) (laid-lies (start taking .pre .1 .0) (start taking .args .i) (turn .ready .low)), left-some turn _ (its-table taking) (taking .if1 .taken)))
+    (λ c. length-set (c .before .before .before .before .before .before .before .before .loop .iters) _ _ ∙ c .before .before .before .before .before .before .before .before .loop .inv .iters-same)
+    (λ c. c .before .before .fill-slots .kept .1 .1 .1 .0 ∙ c .before .before .before .before .before .before .before .before .loop .inv .slots-same)
     (λ c.
-    let start = c .before .before .before .before .before .before .before .before .before .before .before .before .before .before .before .before .before in
-    let turn = c .before .before .before .before .before .before .before .loop .inv in
-    let lies = laid-lies (start .pre .1 .0) (start .args .i) (turn .ready .low) in
-    turn-take turn (rw (turn .slots-same) (start .pre .1 .0 .sound)) (c .before .before .before .before .if1 .taken) _ _ (table-is lies _ _ (c .before .before .before .before .before .before .before .before .get-table .ensures)) (c .before .before .fill-slots .ensures))
+    let taking = c .before .before .before .before .before in
+    let turn = taking .before .before .before .loop .inv in
+    turn-take turn (rw (turn .slots-same) (start taking .pre .1 .0 .sound)) (taking .if1 .taken) _ _ (its-table taking)
+    (rw (left-first turn _ (its-table taking) (taking .if1 .taken)) at (c .before .before .fill-slots .ensures)))
     (λ c. c .before .before .before .before .loop .inv .iters-same)
     (λ c. c .before .before .before .before .loop .inv .slots-same)
     (λ c. turn-end (c .before .before .before .before .loop .inv) (c .before .if1 .left) (c .if2 .taken))
