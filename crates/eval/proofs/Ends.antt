@@ -6,13 +6,14 @@ use Prim.Native.Nat.{ℕ, _+_, _/_, _<_, _≤_}
 use native.Mathlib.Omega.{arith}
 use borrow.Author.Tests.{lt-ltb, le-ltb}
 use lib.ListN.{length, take, drop, length-map}
-use lib.Seq.{take-all, length-take-le, take-nil}
+use lib.Seq.{drop-drop, take-all, length-take-le, take-nil}
 use lib.Dec.{ltb}
 use Rattle.tables.specs.Rows.{flat}
 use Rattle.plan.specs.declared.Scan.{Scan}
 use Rattle.visits.specs.Visits.{Tables, slotsAt}
 use Rattle.visits.specs.Window.{window}
-use Rattle.eval.specs.Next.{Advanced, selectedBy, rowsAt, Shows}
+use Rattle.eval.specs.Next.{remaining, Advanced, selectedBy, rowsAt, Shows}
+use Rattle.eval.proofs.Passing.{drop-none, drop-next}
 use Rattle.eval.proofs.Fill.{Filling, none-left, some-left, drop-map}
 
 -- the rows of the visits that are left are what is left of the rows
@@ -71,3 +72,24 @@ module _ {ts : Tables} {ss : List Scan} {initial selects : List ℕ} {ws : List 
       let z : length ws ≤ c = none-left ws c (sym (u .rest) ∙ v .no-more refl) in
       let n = rows-length in
       shows false (ap (λ (m : ℕ). take m rows) e) (sym (le-ltb room (length rows) (omega arith)))
+
+-- what is left after `show`: nothing where no visit is left, and otherwise what follows the one more that it took to see whether one does
+module _ (vs ws : List (List ℕ)) (k room : ℕ) where
+  pub left-none : drop k vs ≡ [] → ws ≡ drop k vs → ws ≡ drop (k + room + 1) vs
+  left-none z e = e ∙ z ∙ sym (drop-none vs k (k + room + 1) (omega arith) z)
+
+module _ {ts : Tables} {ss : List Scan} {initial selects : List ℕ} {ws : List (List ℕ)} {o iters₀ slots₀ iters slots : List ℕ} {width room : ℕ}
+    {out : List ℕ} {c : ℕ} (u : Filling ts ss initial selects ws o iters₀ slots₀ iters slots width room out c)
+    (vs : List (List ℕ)) (k : ℕ) (q : ws ≡ drop k vs) (iters′ slots′ : List ℕ) where
+  -- after so many rows
+  rest-is : remaining ts ss initial iters ≡ drop (k + c) vs
+  rest-is = u .rest ∙ ap (drop c) q ∙ drop-drop c k vs
+
+  pub left-all : Advanced ts ss initial iters false iters′ slots′ → remaining ts ss initial iters′ ≡ drop (k + room + 1) vs
+  left-all v = v .no-rest refl ∙ sym (drop-none vs (k + c) (k + room + 1) (omega (arith, u .fits)) (sym rest-is ∙ v .no-more refl))
+
+  pub left-full : room ≤ c → (more : Bool) → Advanced ts ss initial iters more iters′ slots′ → remaining ts ss initial iters′ ≡ drop (k + room + 1) vs
+  left-full l false v = left-all v
+  left-full l true v =
+      let e : c ≡ room = omega (arith, u .fits) in
+      rw e at (sym (drop-next vs (k + c) _ _ (sym rest-is ∙ v .next refl)))

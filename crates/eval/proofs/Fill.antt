@@ -116,7 +116,7 @@ module _ {ts : Tables} {ss : List Scan} {initial selects : List ℕ} {ws : List 
       record {
         width-is = u .width-is;
         room-is = u .room-is;
-        ready = v .ready refl;
+        ready = v .ready;
         fits = omega arith;
         some = some-left ws c x _ left;
         rest = sym (drop-next ws c x _ left);

@@ -1,15 +1,15 @@
-pub mod Words
-pub mod Scans
-pub mod Turn
-pub mod Again
-pub mod Advance
-pub mod Put
-pub mod Passing
+mod Words
+mod Scans
+mod Turn
+mod Again
+mod Advance
+mod Put
+mod Passing
 pub mod Fill
-pub mod Ends
-pub mod Start
-pub mod Write
-pub mod Written
-pub mod Answers
+mod Ends
+mod Start
+mod Write
+mod Written
+mod Answers
 pub mod OneAnswer
 pub mod Planned

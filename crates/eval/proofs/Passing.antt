@@ -44,17 +44,15 @@ module _ {ts : Tables} {ss : List Scan} {initial iters₀ slots₀ : List ℕ} {
     (u : Skipping ts ss initial iters₀ slots₀ count iters slots left) where
   -- there is no next visit
   pub skip-no : (iters′ slots′ : List ℕ) → Advanced ts ss initial iters false iters′ slots′ → Skipped ts ss initial iters₀ count false iters′ slots′
-  skip-no iters′ slots′ v = record {
-    rest = λ e. absurd (false≢true e);
-    ready = λ e. absurd (false≢true e);
-    no-more = λ _. drop-none (remaining ts ss initial iters₀) (count - left) count (omega arith) (sym (u .rest) ∙ v .no-more refl);
-  }
+  skip-no iters′ slots′ v =
+      let none = drop-none (remaining ts ss initial iters₀) (count - left) count (omega arith) (sym (u .rest) ∙ v .no-more refl) in
+      record { rest = v .no-rest refl ∙ sym none; ready = v .ready; no-more = λ _. none }
 
   -- one more is passed over
   pub skip-again : (iters′ slots′ : List ℕ) → Advanced ts ss initial iters true iters′ slots′ → length iters′ ≡ length iters → length slots′ ≡ length slots
       → 0 < left → Skipping ts ss initial iters₀ slots₀ count iters′ slots′ (left - 1)
   skip-again iters′ slots′ v long wide l = record {
-    ready = v .ready refl;
+    ready = v .ready;
     few = omega (arith, u .few);
     rest =
         let q : count - (left - 1) ≡ count - left + 1 = omega (arith, u .few) in
@@ -67,4 +65,4 @@ module _ {ts : Tables} {ss : List Scan} {initial iters₀ slots₀ : List ℕ} {
   pub skip-done : left ≤ 0 → Skipped ts ss initial iters₀ count true iters slots
   skip-done l =
       let q : count - left ≡ count = omega arith in
-      record { rest = λ _. u .rest ∙ rw q; ready = λ _. u .ready; no-more = λ e. absurd (false≢true (sym e)) }
+      record { rest = u .rest ∙ rw q; ready = u .ready; no-more = λ e. absurd (false≢true (sym e)) }

@@ -90,6 +90,7 @@ module _ {ts : Tables} {ss : List Scan} {initial iters₀ slots₀ : List ℕ} {
         yes-next = λ _. sym (u .same) ∙ pending-took ts ss initial iters i (omega (arith, u .ready .low, u .ready .iters-long)) l;
         yes-slots = λ _. slots-took ok l t slots′ e f;
         no-more = λ q. no-false q;
+        no-row = λ q. no-false q;
       }
 
   -- scan 0 has none left
@@ -101,6 +102,7 @@ module _ {ts : Tables} {ss : List Scan} {initial iters₀ slots₀ : List ℕ} {
     yes-next = λ q. no-true q;
     yes-slots = λ q. no-true q;
     no-more = λ _. sym (u .same) ∙ pending-dry ts ss initial iters i l ∙ rw z refl;
+    no-row = λ _ j g. let e : j ≡ i = omega arith in rw e l;
   }
 
   -- the scan outside can take a step
@@ -122,7 +124,13 @@ module _ {ts : Tables} {ss : List Scan} {initial iters₀ slots₀ : List ℕ} {
     ends-after more v j l =
         ⊎-elim (λ (q : j ≡ i). rw (v .above (iterWords * j + 1) (omega arith)) (u .ready .ends j l)) (λ (q : j < i). v .ends j (omega arith)) (eq-or-lt-of-le l)
 
-    -- it had none, so this scan has none
+    -- it had none, so no scan has a row left
+    none-after : Stepped ts ss initial iters (i - 1) false iters₁ slots₁ → (j : ℕ) → j ≤ i → ending iters₁ j ≤ position iters₁ j
+    none-after v j l =
+        ⊎-elim (λ (q : j ≡ i). rw (v .above (iterWords * j + 1) (omega arith), v .above (iterWords * j) (omega arith), q) dry)
+        (λ (q : j < i). v .no-row refl j (omega arith)) (eq-or-lt-of-le l)
+
+    -- and this one has no visit
     pub turn-no : Stepped ts ss initial iters (i - 1) false iters₁ slots₁ → Stepped ts ss initial iters₀ i false iters₁ slots₁
     unfolding extend
     turn-no v = record {
@@ -131,4 +139,5 @@ module _ {ts : Tables} {ss : List Scan} {initial iters₀ slots₀ : List ℕ} {
       yes-next = λ q. no-true q;
       yes-slots = λ q. no-true q;
       no-more = λ _. sym (u .same) ∙ pending-dry ts ss initial iters i dry ∙ ap (extend ts (take i ss) s initial) (rw suc-pred at (v .no-more refl));
+      no-row = λ _. none-after v;
     }

@@ -18,17 +18,18 @@ innermost ss = length ss - 1
 abbrev pub remaining : Tables → List Scan → List ℕ → List ℕ → List (List ℕ)
 remaining ts ss initial iters = pending ts ss initial iters (length ss)
 
--- the next visit is taken: whether there was one
+-- the next visit is taken: whether there was one. Where there was none there is none after it either
 pub record Advanced (ts : Tables) (ss : List Scan) (initial iters : List ℕ) (more : Bool) (iters′ slots′ : List ℕ) : Type 0 where
   pub next : more ≡ true → remaining ts ss initial iters ≡ current iters′ (length ss) ∷ remaining ts ss initial iters′
   pub slots-are : more ≡ true → slots′ ≡ slotsAt ts ss initial (current iters′ (length ss))
-  pub ready : more ≡ true → Ready ts ss initial iters′ slots′ (innermost ss)
+  pub ready : Ready ts ss initial iters′ slots′ (innermost ss)
   pub no-more : more ≡ false → remaining ts ss initial iters ≡ []
+  pub no-rest : more ≡ false → remaining ts ss initial iters′ ≡ []
 
--- so many visits are passed over: whether there were so many
+-- so many visits are passed over: whether there were so many. What is left is left
 pub record Skipped (ts : Tables) (ss : List Scan) (initial iters : List ℕ) (count : ℕ) (more : Bool) (iters′ slots′ : List ℕ) : Type 0 where
-  pub rest : more ≡ true → remaining ts ss initial iters′ ≡ drop count (remaining ts ss initial iters)
-  pub ready : more ≡ true → Ready ts ss initial iters′ slots′ (innermost ss)
+  pub rest : remaining ts ss initial iters′ ≡ drop count (remaining ts ss initial iters)
+  pub ready : Ready ts ss initial iters′ slots′ (innermost ss)
   pub no-more : more ≡ false → drop count (remaining ts ss initial iters) ≡ []
 
 -- the slots with these numbers

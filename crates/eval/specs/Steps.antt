@@ -41,10 +41,12 @@ pub record Ready (ts : Tables) (ss : List Scan) (initial iters slots : List ℕ)
   pub ends : (j : ℕ) → j ≤ i → ending iters j ≤ count (tableOf ts (getD ss j zeroScan .index))
   pub live : (j : ℕ) → j ≤ i → position iters j < ending iters j → Agree (drop j ss) slots (currentSlots ts ss initial iters j)
 
--- what a step of scan i does: it answers whether there is a visit still to come, and stands at the first of these
+-- what a step of scan i does: it answers whether there is a visit still to come, and stands at the first of these; where there is none,
+-- no scan has a row left
 pub record Stepped (ts : Tables) (ss : List Scan) (initial iters : List ℕ) (i : ℕ) (more : Bool) (iters′ slots′ : List ℕ) : Type 0 where
   pub above : (j : ℕ) → iterWords * suc i ≤ j → getD iters′ j 0 ≡ getD iters j 0
   pub ends : (j : ℕ) → j ≤ i → ending iters′ j ≤ count (tableOf ts (getD ss j zeroScan .index))
   pub yes-next : more ≡ true → pending ts ss initial iters (suc i) ≡ current iters′ (suc i) ∷ pending ts ss initial iters′ (suc i)
   pub yes-slots : more ≡ true → Agree (drop (suc i) ss) slots′ (currentSlots ts ss initial iters′ (suc i))
   pub no-more : more ≡ false → pending ts ss initial iters (suc i) ≡ []
+  pub no-row : more ≡ false → (j : ℕ) → j ≤ i → ending iters′ j ≤ position iters′ j

@@ -10,7 +10,7 @@
 use super::walk::SCAN_WORDS;
 ghost use mathlib.Core.Path.{_≡_};
 ghost use mathlib.Core.List.{_++_};
-ghost use Prim.Native.Nat.{_+_, _≤_, _<_};
+ghost use Prim.Native.Nat.{_+_, _/_, _≤_, _<_};
 ghost use lib.ListN.{length, take, drop};
 ghost use Rattle.eval.specs.Words.{scansIn, Laid};
 ghost use Rattle.eval.specs.Steps.{tablesOf, Ascend, Ready};
@@ -22,7 +22,8 @@ pub(crate) struct Shown {
     pub more: bool,
 }
 
-// Write the rows of the visits that are still to come, from number `from` on, as many as fit in the buffer.
+// Write the rows of the visits that are still to come, from number `from` on, as many as fit in the buffer. The state then stands past
+// one visit more, that was taken to see whether it is there.
 pub(crate) fn show<'a>(
     from: u64,
     words: &[u64],
@@ -42,6 +43,9 @@ pub(crate) fn show<'a>(
     ensures { λ r. ⌜ Shows (rowsAt (tablesOf (now (aevt .entry)) (now (avet .entry)) (now (eavt .entry))) (scansIn (now (words .entry))) (now (initial .entry)) (now (selects .entry))
         (remaining (tablesOf (now (aevt .entry)) (now (avet .entry)) (now (eavt .entry))) (scansIn (now (words .entry))) (now (initial .entry)) (now (iters .entry))))
         (length (now (selects .entry))) from (now (rows .entry)) (r .count) (r .more) (now (rows .exit)) ⌝ }
+    ensures { λ r. ⌜ remaining (tablesOf (now (aevt .entry)) (now (avet .entry)) (now (eavt .entry))) (scansIn (now (words .entry))) (now (initial .entry)) (now (iters .exit))
+        ≡ drop (from + length (now (rows .entry)) / length (now (selects .entry)) + 1)
+        (remaining (tablesOf (now (aevt .entry)) (now (avet .entry)) (now (eavt .entry))) (scansIn (now (words .entry))) (now (initial .entry)) (now (iters .entry))) ⌝ }
 {
     if !skip(from, words, aevt, avet, eavt, initial, iters, slots) {
         return Shown {

@@ -7,7 +7,7 @@ use Rattle.eval.specs.Words.{scansIn}
 use Rattle.eval.specs.Steps.{tablesOf}
 use Rattle.eval.specs.Next.{remaining}
 use Rattle.eval.proofs.Fill.{Filling, fill-start, fill-room, fill-count, fill-again}
-use Rattle.eval.proofs.Ends.{rows-drop, shows-none, shows-all, shows-full}
+use Rattle.eval.proofs.Ends.{rows-drop, shows-none, shows-all, shows-full, left-none, left-all, left-full}
 use Rattle.eval.proofs.rows.show.Statement.{statement}
 use Rattle.eval.proofs.rows.show.Tie as tie
 
@@ -25,8 +25,10 @@ too-few : tie.Need-returns Inv μ
 too-few c =
     let a = c .before .before .before .before .before .before .before .before .before .before .before .before .before .before .before .before .before .args in
     let skipped = c .before .before .before .before .before .skip in
-    shows-none (tablesOf (a .aevt .now) (a .avet .now) (a .eavt .now)) (scansIn (a .words .now)) (a .initial .now) (a .selects .now) _ _ (a .from) _
-    (skipped .ensures .no-more (not-true (skipped .result) (c .if1 .taken)))
+    let none = skipped .ensures .no-more (not-true (skipped .result) (c .if1 .taken)) in (
+      shows-none (tablesOf (a .aevt .now) (a .avet .now) (a .eavt .now)) (scansIn (a .words .now)) (a .initial .now) (a .selects .now) _ _ (a .from) _ none,
+      left-none _ _ (a .from) _ none (skipped .ensures .rest),
+    )
 
 all-shown : tie.Need-returns-2 Inv μ
 all-shown c =
@@ -34,9 +36,11 @@ all-shown c =
     let skipped = c .before .before .before .before .before .before .before .before .before .before .before .before .before .before .before .skip in
     let ts = tablesOf (a .aevt .now) (a .avet .now) (a .eavt .now) in
     let ss = scansIn (a .words .now) in
-    let left = rows-drop ts ss (a .initial .now) (a .selects .now) (remaining ts ss (a .initial .now) (a .iters .now)) _ (a .from) (skipped .ensures .rest (not-false (skipped .result) (c .before .before .before .before .before .before .before .before .before .before .if1 .left))) in
+    let left = rows-drop ts ss (a .initial .now) (a .selects .now) (remaining ts ss (a .initial .now) (a .iters .now)) _ (a .from) (skipped .ensures .rest) in
     let step = c .before .before .before .before .before .next in
-    shows-all (c .before .before .before .before .before .before .before .before .before .loop .inv) _ (a .from) left (c .before .before .before .before .before .before .before .before .loop-test .taken) _ _ (rw (not-true (step .result) (c .if2 .taken)) at (step .ensures))
+    let turn = c .before .before .before .before .before .before .before .before .before .loop .inv in
+    let no = rw (not-true (step .result) (c .if2 .taken)) at (step .ensures) in
+    (shows-all turn _ (a .from) left (c .before .before .before .before .before .before .before .before .loop-test .taken) _ _ no, left-all turn _ (a .from) (skipped .ensures .rest) _ _ no)
 
 full : tie.Need-returns-3 Inv μ
 full c =
@@ -44,9 +48,11 @@ full c =
     let skipped = c .before .before .before .before .before .before .before .before .before .before .before .before .before .before .skip in
     let ts = tablesOf (a .aevt .now) (a .avet .now) (a .eavt .now) in
     let ss = scansIn (a .words .now) in
-    let left = rows-drop ts ss (a .initial .now) (a .selects .now) (remaining ts ss (a .initial .now) (a .iters .now)) _ (a .from) (skipped .ensures .rest (not-false (skipped .result) (c .before .before .before .before .before .before .before .before .before .if1 .left))) in
+    let left = rows-drop ts ss (a .initial .now) (a .selects .now) (remaining ts ss (a .initial .now) (a .iters .now)) _ (a .from) (skipped .ensures .rest) in
     let step = c .before .before .before .before .next2 in
-    shows-full (c .before .before .before .before .before .before .before .before .loop .inv) _ (a .from) left (c .before .before .before .before .before .before .before .loop-test .left) (step .result) _ _ (step .ensures)
+    let turn = c .before .before .before .before .before .before .before .before .loop .inv in
+    let full = c .before .before .before .before .before .before .before .loop-test .left in
+    (shows-full turn _ (a .from) left full (step .result) _ _ (step .ensures), left-full turn _ (a .from) (skipped .ensures .rest) _ _ full (step .result) (step .ensures))
 
 again : tie.Need-loop-again Inv μ
 again c =
@@ -66,7 +72,7 @@ show-spec =
     (λ c. c .before .before .before .before .before .skip .kept .1 .1 .1 .1 .1 .1 .1 .0)
     too-few
     (λ c. omega (arith, c .before .before .before .before .before .before .before .before .before .before .before .before .before .before .before .before .before .pre .1 .1 .1 .1))
-    (λ c. let skipped = c .before .before .before .before .before .skip in fill-start _ _ _ _ _ _ _ (skipped .ensures .ready (not-false (skipped .result) (c .if1 .left))))
+    (λ c. let skipped = c .before .before .before .before .before .skip in fill-start _ _ _ _ _ _ _ (skipped .ensures .ready))
     (λ c κs.
     let pre = c .before .before .before .before .before .before .before .before .before .before .before .before .before .before .before .before .before .before .before .before .before .pre in
     let turn = c .before .before .before .loop .inv in

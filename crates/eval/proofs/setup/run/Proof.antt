@@ -30,7 +30,7 @@ shown c =
     let scans = start .pre .1 .1 .0 in
     let ts = tablesOf (a .aevt .now) (a .avet .now) (a .eavt .now) in
     let table = table-is (laid-lies laid 0 (scans .0)) ts _ (c .before .before .before .before .before .before .before .before .before .before .before .before .get-table .ensures) in
-    rw (start-all ts (scansIn (a .words .now)) (a .initial .now) (a .slots .now) _ _ _ _ _ (start .pre .1 .1 .1 .0) (c .before .before .before .before .before .before .before .before .before .before .before .before .before .before .before .before .clear .ensures) (scans .0) (scans .1) table (iter .ensures) (start .pre .1 .0)) at (c .before .before .before .before .before .before .show .ensures)
+    rw (start-all ts (scansIn (a .words .now)) (a .initial .now) (a .slots .now) _ _ _ _ _ (start .pre .1 .1 .1 .0) (c .before .before .before .before .before .before .before .before .before .before .before .before .before .before .before .before .clear .ensures) (scans .0) (scans .1) table (iter .ensures) (start .pre .1 .0)) at (c .before .before .before .before .before .before .show .ensures .0)
 
 pub run-spec : {M : Type 1} → statement M
 run-spec =
