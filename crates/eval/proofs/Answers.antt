@@ -21,8 +21,8 @@ use Rattle.plan.specs.declared.Plan.{Plan}
 use Rattle.plan.specs.declared.Index.the-variants.{Aevt, Avet, Eavt}
 use Rattle.plan_check.specs.Check.{checkOf}
 use Rattle.plan_check.proofs.Promises.{promises}
-use Rattle.visits.specs.Visits.{Tables}
-use Rattle.eval.specs.Steps.{tablesOf, Ascend}
+use Rattle.visits.specs.Visits.{Tables, tablesOf}
+use Rattle.eval.specs.Steps.{Ascend}
 use Rattle.eval.specs.declared.Evaluated.{Evaluated}
 use Rattle.eval.specs.Evaluation.{Evaluable, ShowsRows, evaluationFault, evaluateOf, bufferAfter}
 

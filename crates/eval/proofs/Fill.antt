@@ -1,24 +1,20 @@
 -- The turns of `show`'s loop: before turn c the first c rows of what remains are written, and the buffer past them is as it was.
 use mathlib.Core.Path.{_≡_, refl, sym, ap, _∙_}
 use mathlib.Core.Bool.{true}
-use mathlib.Core.List.{List, [], _∷_, _++_, map, append-nil, append-assoc}
+use mathlib.Core.List.{List, [], _∷_, _++_, map, append-nil}
 use Prim.Native.Nat.{ℕ, zero, suc, _+_, _*_, _-_, _/_, _<_, _≤_}
 use native.Mathlib.Omega.{arith}
 use native.Mathlib.Nat.{mul-le-mul-right, div-mul-le-self, div-le-self}
 use lib.ListN.{length, getD, take, drop, length-append, length-drop, length-map}
 use lib.Seq.{drop-drop, drop-append-add, take-add, take-at}
 use Rattle.tables.specs.Rows.{flat}
+use Rattle.tables.proofs.Table.{flat-append}
 use Rattle.plan.specs.declared.Scan.{Scan}
 use Rattle.visits.specs.Visits.{Tables, slotsAt}
 use Rattle.visits.specs.Pending.{current}
 use Rattle.eval.specs.Steps.{Ready}
 use Rattle.eval.specs.Next.{innermost, remaining, Advanced, selectedBy, rowsAt}
 use Rattle.eval.proofs.Passing.{drop-next}
-
-pub flat-append : (xs ys : List (List ℕ)) → flat (xs ++ ys) ≡ flat xs ++ flat ys
-unfolding flat
-flat-append [] ys = refl
-flat-append (x ∷ xs) ys = ap (λ (l : List ℕ). x ++ l) (flat-append xs ys) ∙ sym (append-assoc x (flat xs) (flat ys))
 
 flat-one : (x : List ℕ) → flat (x ∷ []) ≡ x
 unfolding flat

@@ -5,7 +5,7 @@ mod Again
 mod Advance
 mod Put
 mod Passing
-pub mod Fill
+mod Fill
 mod Ends
 mod Start
 mod Write

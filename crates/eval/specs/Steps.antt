@@ -13,9 +13,6 @@ use Rattle.visits.specs.Visits.{Tables, tableOf, rowFor, inputs, wanted}
 use Rattle.visits.specs.Sound.{stood, Agree}
 use Rattle.visits.specs.Pending.{iterWords, position, ending, current, currentSlots, pending}
 
-abbrev pub tablesOf : List ℕ → List ℕ → List ℕ → Tables
-tablesOf a b c = record { aevt = a; avet = b; eavt = c }
-
 -- the tables are sorted
 abbrev pub Ascend : Tables → Type 0
 Ascend ts = (x : Index) → ascending (rowsOf (tableOf ts x)) ≡ true

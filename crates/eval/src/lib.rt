@@ -16,7 +16,7 @@ use refusal::Verdict;
 use refusal::refuse;
 ghost use mathlib.Core.Path.{_≡_};
 ghost use lib.ListN.{length};
-ghost use Rattle.eval.specs.Steps.{tablesOf};
+ghost use Rattle.visits.specs.Visits.{tablesOf};
 ghost use Rattle.eval.specs.Evaluation.{evaluationFault, evaluateOf, bufferAfter};
 
 // Whether evaluation is refused; how many rows were written, and whether another follows.

@@ -13,7 +13,8 @@ ghost use mathlib.Core.List.{_++_};
 ghost use Prim.Native.Nat.{_+_, _/_, _≤_, _<_};
 ghost use lib.ListN.{length, take, drop};
 ghost use Rattle.eval.specs.Words.{scansIn, Laid};
-ghost use Rattle.eval.specs.Steps.{tablesOf, Ascend, Ready};
+ghost use Rattle.visits.specs.Visits.{tablesOf};
+ghost use Rattle.eval.specs.Steps.{Ascend, Ready};
 ghost use Rattle.eval.specs.Next.{innermost, remaining, Advanced, Skipped, selectedBy, Named, rowsAt, Shows};
 
 // How many rows were written, and whether another follows.

@@ -26,10 +26,10 @@ ghost use mathlib.Core.List.{[], _∷_, _++_};
 ghost use lib.ListN.{length, take, drop, replicate};
 ghost use Rattle.capacity.specs.Capacity.{maxScans, maxSlots, maxSelects};
 ghost use Rattle.plan.specs.Plan.{inOrder};
-ghost use Rattle.visits.specs.Visits.{inputs, valueOf, visits};
+ghost use Rattle.visits.specs.Visits.{tablesOf, inputs, valueOf, visits};
 ghost use Rattle.visits.specs.Pending.{iterWords};
 ghost use Rattle.eval.specs.Words.{scanWords, indexNumber, wordsOf, scansIn, Laid};
-ghost use Rattle.eval.specs.Steps.{tablesOf, Ascend};
+ghost use Rattle.eval.specs.Steps.{Ascend};
 ghost use Rattle.eval.specs.Next.{Named, rowsAt, Shows};
 ghost use Rattle.eval.specs.Evaluation.{valuesOf, numbersOf, Evaluable, Roomy, RoomFor, WrittenOut, ShowsRows};
 

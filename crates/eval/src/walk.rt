@@ -13,9 +13,9 @@ ghost use Prim.Native.Nat.{_<_};
 ghost use lib.ListN.{length, getD};
 ghost use Rattle.tables.specs.Rows.{count, row, key};
 ghost use Rattle.plan.specs.Plan.{zeroScan};
-ghost use Rattle.visits.specs.Visits.{tableOf};
+ghost use Rattle.visits.specs.Visits.{tablesOf, tableOf};
 ghost use Rattle.eval.specs.Words.{indexOf, scansIn, LiesAt, Laid};
-ghost use Rattle.eval.specs.Steps.{tablesOf, keyOf, filledFrom, Found, Ascend, Ready, Stepped};
+ghost use Rattle.eval.specs.Steps.{keyOf, filledFrom, Found, Ascend, Ready, Stepped};
 
 // A scan's words: its table's number, how many inputs it has, its attribute, and its two slots in index order.
 pub(crate) const SCAN_WORDS: usize = 5;

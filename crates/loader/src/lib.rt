@@ -12,7 +12,7 @@ use words::PLAN_WORDS;
 use words::QUERY_WORDS;
 ghost use mathlib.Core.Path.{_≡_};
 ghost use lib.ListN.{length};
-ghost use Rattle.eval.specs.Steps.{tablesOf};
+ghost use Rattle.visits.specs.Visits.{tablesOf};
 ghost use Rattle.cost.specs.Cost.{costOf};
 ghost use Rattle.plan_check.specs.Check.{checkOf};
 ghost use Rattle.tables.specs.Check.{tablesFault};

@@ -23,10 +23,9 @@ use Rattle.plan_text.specs.declared.Formatted.{Formatted}
 use Rattle.plan_text.specs.Text.{textOf}
 use Rattle.plan_text.specs.Answer.{textFault, formattedOf, bufferAfter}
 use Rattle.plan_text.proofs.Answers.{text-fits}
-use Rattle.visits.specs.Visits.{Tables}
+use Rattle.visits.specs.Visits.{Tables, tablesOf}
 use Rattle.eval.specs.declared.Evaluated.{Evaluated}
 use Rattle.eval.specs.Evaluation.{evaluationFault, evaluateOf}
-use Rattle.eval.specs.Steps.{tablesOf}
 use Rattle.asked.specs.declared.Parts.{Parts}
 use Rattle.asked.specs.Parts.{partsOf, itemsOf, areKinds, areBytes, insideOf}
 use Rattle.asked.specs.Asked.{bytesAfter}

@@ -2,7 +2,7 @@
 use mathlib.Core.Path.{_≡_, refl, sym, ap, _∙_}
 use mathlib.Core.Logic.{⊎-elim}
 use mathlib.Core.Bool.{true, false, _&&_, or-true}
-use mathlib.Core.List.{List, [], _∷_, map}
+use mathlib.Core.List.{List, [], _∷_, _++_, map, append-assoc}
 use Prim.Native.Nat.{ℕ, zero, suc, _+_, _*_, _-_, _≤_, _<_}
 use native.Mathlib.Omega.{arith}
 use native.Mathlib.Nat.{add-zero, eq-or-lt-of-le}
@@ -76,6 +76,12 @@ module _ (f : ℕ → List ℕ) (n i : ℕ) where
       go zero l = refl
       go (suc zero) l = refl
       go (suc (suc m)) l = absurd (omega arith)
+
+-- the words of rows and then others
+pub flat-append : (xs ys : List (List ℕ)) → flat (xs ++ ys) ≡ flat xs ++ flat ys
+unfolding flat
+flat-append [] ys = refl
+flat-append (x ∷ xs) ys = ap (λ (l : List ℕ). x ++ l) (flat-append xs ys) ∙ sym (append-assoc x (flat xs) (flat ys))
 
 -- the words of m rows from row s on
 pub flat-rows : (t : List ℕ) (s m : ℕ) → flat (map (row t) (span s m)) ≡ take (words * m) (drop (words * s) t)

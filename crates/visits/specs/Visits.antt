@@ -24,6 +24,9 @@ pub record Tables : Type 0 where
   pub avet : List ℕ
   pub eavt : List ℕ
 
+abbrev pub tablesOf : List ℕ → List ℕ → List ℕ → Tables
+tablesOf a b c = record { aevt = a; avet = b; eavt = c }
+
 abbrev pub tableOf : Tables → Index → List ℕ
 tableOf ts Aevt = ts .aevt
 tableOf ts Avet = ts .avet

@@ -9,7 +9,7 @@ use mathlib.Core.Bool.{false}
 use lib.Dec.{leb}
 use lib.ListN.{length, take, drop, length-append}
 use Rattle.tables.specs.Rows.{flat}
-use Rattle.eval.proofs.Fill.{flat-append}
+use Rattle.tables.proofs.Table.{flat-append}
 use Rattle.reply.specs.Lines.{wordText, leftAfter, rowLines}
 use Rattle.windows.specs.Windows.{linesOf}
 

@@ -5,7 +5,7 @@ ghost use Prim.Native.Nat.{_*_, _/_, _≤_, min};
 ghost use lib.ListN.{length, take};
 ghost use Rattle.pieces.specs.Written.{Written};
 ghost use Rattle.reply.specs.Lines.{rowLines};
-ghost use Rattle.eval.specs.Steps.{tablesOf};
+ghost use Rattle.visits.specs.Visits.{tablesOf};
 ghost use Rattle.windows.specs.Windows.{isLast, stepOf, endText, wordBytes, Fills, Shows};
 
 // How many bytes were written, whether this window is the last, and how the next one begins: the number of its first row, and how

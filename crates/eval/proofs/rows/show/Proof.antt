@@ -4,7 +4,7 @@ use Prim.Native.Nat.{_-_}
 use native.Mathlib.Omega.{arith}
 use borrow.Author.Tests.{not-true, not-false}
 use Rattle.eval.specs.Words.{scansIn}
-use Rattle.eval.specs.Steps.{tablesOf}
+use Rattle.visits.specs.Visits.{tablesOf}
 use Rattle.eval.specs.Next.{remaining}
 use Rattle.eval.proofs.Fill.{Filling, fill-start, fill-room, fill-count, fill-again}
 use Rattle.eval.proofs.Ends.{rows-drop, shows-none, shows-all, shows-full, left-none, left-all, left-full}

@@ -3,7 +3,7 @@ use mathlib.Core.Path.{_∙_}
 use native.Mathlib.Omega.{arith}
 use borrow.Author.Tests.{not-true, not-false}
 use Rattle.eval.specs.Words.{scansIn}
-use Rattle.eval.specs.Steps.{tablesOf}
+use Rattle.visits.specs.Visits.{tablesOf}
 use Rattle.eval.proofs.Passing.{Skipping, skip-start, skip-no, skip-again, skip-done}
 use Rattle.eval.proofs.rows.skip.Statement.{statement}
 use Rattle.eval.proofs.rows.skip.Tie as tie

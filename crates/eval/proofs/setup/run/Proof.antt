@@ -4,7 +4,7 @@ use native.Mathlib.Omega.{arith}
 use borrow.Author.Needs.{needs}
 use lib.ListN.{length-set}
 use Rattle.eval.specs.Words.{scansIn}
-use Rattle.eval.specs.Steps.{tablesOf}
+use Rattle.visits.specs.Visits.{tablesOf}
 use Rattle.eval.proofs.Words.{laid-lies, laid-length, table-is}
 use Rattle.eval.proofs.Start.{begun-same, start-ready, start-all}
 use Rattle.eval.proofs.setup.run.Statement.{statement}

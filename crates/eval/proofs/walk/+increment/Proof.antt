@@ -10,10 +10,9 @@ use borrow.Fn.PlainCycle.{Measures, is, falls, and}
 use lib.ListN.{length, getD, length-set}
 use Rattle.datom.specs.Fact.{words}
 use Rattle.plan.specs.Plan.{zeroScan}
-use Rattle.visits.specs.Visits.{tableOf}
+use Rattle.visits.specs.Visits.{tablesOf, tableOf}
 use Rattle.visits.specs.Pending.{ending, pending}
 use Rattle.eval.specs.Words.{scansIn}
-use Rattle.eval.specs.Steps.{tablesOf}
 use Rattle.eval.proofs.Words.{laid-lies, table-is}
 use Rattle.eval.proofs.Turn.{Turn, turn-start, left-in, left-some, left-first, turn-take, turn-end, turn-ready, turn-no}
 use Rattle.eval.proofs.Again.{turn-again, turn-less}
