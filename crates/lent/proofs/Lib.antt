@@ -5,4 +5,5 @@ pub mod Planning
 pub mod Arrays
 pub mod Lender
 pub mod Agree
+pub mod Whole
 pub mod OneAnswer

@@ -7,7 +7,9 @@ use Rattle.query.specs.declared.Var.{Var}
 use Rattle.query.specs.declared.Statement.{Statement}
 use Rattle.query.specs.declared.Statements.{Statements}
 use Rattle.query.specs.declared.Selects.{Selects}
+use Rattle.query.specs.declared.Query.{Query}
 use Rattle.planner.specs.declared.Planned.{Planned}
+use Rattle.planner.specs.Planning.{planOf}
 use Rattle.lent.specs.Lent.{readStatements, readSelects, planLent}
 
 pub read-statements-one : (ss : List Statement) (r r′ : Statements) → r ≡ readStatements ss → r′ ≡ readStatements ss → r ≡ r′
@@ -16,6 +18,9 @@ read-statements-one ss r r′ = one-answer
 pub read-selects-one : (vs : List Var) (r r′ : Selects) → r ≡ readSelects vs → r′ ≡ readSelects vs → r ≡ r′
 read-selects-one vs r r′ = one-answer
 
--- `plan`, and the functions that lend to it
+-- `plan`
 pub plan-one : (n : ℕ) (ss : List Statement) (vs : List Var) (r r′ : Planned) → r ≡ planLent n ss vs → r′ ≡ planLent n ss vs → r ≡ r′
 plan-one n ss vs r r′ = one-answer
+
+pub plan-query-one : (q : Query) (r r′ : Planned) → r ≡ planOf q → r′ ≡ planOf q → r ≡ r′
+plan-query-one q r r′ = one-answer

@@ -19,7 +19,9 @@ use query::Statements;
 use query::Var;
 ghost use mathlib.Core.Path.{_≡_};
 ghost use mathlib.Core.List.{[]};
-ghost use Prim.Native.Nat.{_+_, _<_, _^_};
+ghost use Prim.Native.Nat.{_+_, _≤_, _<_, _^_};
+ghost use lib.ListN.{take};
+ghost use Rattle.capacity.specs.Capacity.{maxStatements, maxSelects};
 ghost use Rattle.planner.specs.Planning.{planOf};
 ghost use Rattle.lent.specs.Lent.{readStatements, readSelects, pushedStatement, pushedSelect, queryOf, planLent};
 
@@ -45,38 +47,41 @@ fn plan_read(variable_count: u64, where_statements: Statements, select: Selects)
     planner::plan(query)
 }
 
-// One statement and one variable to select, by value, lent to `plan`: who calls this lends nothing.
-pub fn plan_one(variable_count: u64, statements: [Statement; 1], select: [Var; 1]) -> Planned
-    ensures { λ r. ⌜ r ≡ planLent «variable_count» statements select ⌝ }
+// Plan a query by value: its statements and selects are lent to `plan`. More than the arrays hold cannot be lent, and that is refused.
+pub fn plan_query(query: Query) -> Planned
+    ensures { λ r. ⌜ r ≡ planOf query ⌝ }
 {
-    plan(variable_count, &statements, &select)
+    let statements = query.where_statements;
+    let select = query.select;
+    let count = statements.count;
+    let select_count = select.count;
+    if MAX_STATEMENTS < count {
+        return planner::plan(query);
+    }
+    if MAX_SELECTS < select_count {
+        return planner::plan(query);
+    }
+    let items = statements.items;
+    let chosen = select.items;
+    lend(query.variable_count, items, count, chosen, select_count)
 }
 
-// Two statements, in the same way.
-pub fn plan_pair(variable_count: u64, statements: [Statement; 2], select: [Var; 1]) -> Planned
-    ensures { λ r. ⌜ r ≡ planLent «variable_count» statements select ⌝ }
-{
-    plan(variable_count, &statements, &select)
-}
-
-// One statement more than there is room for.
-pub fn plan_too_many(
+// The first so many of the statements and selects are lent to `plan`. Who calls this lends nothing.
+fn lend(
     variable_count: u64,
-    statements: [Statement; ONE_TOO_MANY],
-    select: [Var; 1],
+    statements: [Statement; MAX_STATEMENTS],
+    count: usize,
+    select: [Var; MAX_SELECTS],
+    select_count: usize,
 ) -> Planned
-    ensures { λ r. ⌜ r ≡ planLent «variable_count» statements select ⌝ }
+    requires { ⌜ count ≤ maxStatements ⌝ ∗ ⌜ «select_count» ≤ maxSelects ⌝ }
+    ensures { λ r. ⌜ r ≡ planLent «variable_count» (take count statements) (take «select_count» select) ⌝ }
 {
-    plan(variable_count, &statements, &select)
-}
-
-pub const ONE_TOO_MANY: usize = MAX_STATEMENTS + 1;
-
-// Nothing to select.
-pub fn plan_no_select(variable_count: u64, statements: [Statement; 1], select: [Var; 0]) -> Planned
-    ensures { λ r. ⌜ r ≡ planLent «variable_count» statements select ⌝ }
-{
-    plan(variable_count, &statements, &select)
+    plan(
+        variable_count,
+        &statements[..count],
+        &select[..select_count],
+    )
 }
 
 // The statements that are lent: as many as fit, zeros past them, and the count of all.

@@ -1,3 +1,4 @@
 pub mod Searching
 pub mod Agree
+pub mod Whole
 pub mod OneAnswer

@@ -5,9 +5,14 @@ use mathlib.Core.List.{List}
 use Rattle.refusal.proofs.OneAnswer.{one-answer}
 use Rattle.query.specs.declared.Var.{Var}
 use Rattle.query.specs.declared.Statement.{Statement}
+use Rattle.query.specs.declared.Query.{Query}
 use Rattle.search.specs.declared.Found.{Found}
+use Rattle.search.specs.Search.{searchOf}
 use Rattle.lent_search.specs.Lent.{searchLent}
 
--- `search`, and the functions that lend to it
+-- `search`
 pub search-one : (n : ℕ) (ss : List Statement) (vs : List Var) (r r′ : Found) → r ≡ searchLent n ss vs → r′ ≡ searchLent n ss vs → r ≡ r′
 search-one n ss vs r r′ = one-answer
+
+pub search-query-one : (q : Query) (r r′ : Found) → r ≡ searchOf q → r′ ≡ searchOf q → r ≡ r′
+search-query-one q r r′ = one-answer

@@ -1,6 +1,7 @@
 // The lent form of the search: the statements and selects are lent as slices, as they are to planning (crate `lent`), and read into a
 // query by value, which is what the crate `search` works on.
-use capacity::MAX_SEARCHED;
+use capacity::MAX_SELECTS;
+use capacity::MAX_STATEMENTS;
 use query::Query;
 use query::Selects;
 use query::Statement;
@@ -8,6 +9,9 @@ use query::Statements;
 use query::Var;
 use search::Found;
 ghost use mathlib.Core.Path.{_≡_};
+ghost use Prim.Native.Nat.{_≤_};
+ghost use lib.ListN.{take};
+ghost use Rattle.capacity.specs.Capacity.{maxStatements, maxSelects};
 ghost use Rattle.lent.specs.Lent.{queryOf};
 ghost use Rattle.search.specs.Search.{searchOf};
 ghost use Rattle.lent_search.specs.Lent.{searchLent};
@@ -34,40 +38,39 @@ fn search_read(variable_count: u64, where_statements: Statements, select: Select
     search::search(query)
 }
 
-// One statement and one variable to select, by value, lent to `search`: who calls this lends nothing.
-pub fn search_one(variable_count: u64, statements: [Statement; 1], select: [Var; 1]) -> Found
-    ensures { λ r. ⌜ r ≡ searchLent «variable_count» statements select ⌝ }
+// Search a query by value: its statements and selects are lent to `search`. More than the arrays hold cannot be lent, and that is refused.
+pub fn search_query(query: Query) -> Found
+    ensures { λ r. ⌜ r ≡ searchOf query ⌝ }
 {
-    search(variable_count, &statements, &select)
+    let statements = query.where_statements;
+    let select = query.select;
+    let count = statements.count;
+    let select_count = select.count;
+    if MAX_STATEMENTS < count {
+        return search::search(query);
+    }
+    if MAX_SELECTS < select_count {
+        return search::search(query);
+    }
+    let items = statements.items;
+    let chosen = select.items;
+    lend(query.variable_count, items, count, chosen, select_count)
 }
 
-// Two statements, in the same way.
-pub fn search_pair(variable_count: u64, statements: [Statement; 2], select: [Var; 1]) -> Found
-    ensures { λ r. ⌜ r ≡ searchLent «variable_count» statements select ⌝ }
-{
-    search(variable_count, &statements, &select)
-}
-
-// As many statements as are searched.
-pub fn search_most(
+// The first so many of the statements and selects are lent to `search`. Who calls this lends nothing.
+fn lend(
     variable_count: u64,
-    statements: [Statement; MAX_SEARCHED],
-    select: [Var; 1],
+    statements: [Statement; MAX_STATEMENTS],
+    count: usize,
+    select: [Var; MAX_SELECTS],
+    select_count: usize,
 ) -> Found
-    ensures { λ r. ⌜ r ≡ searchLent «variable_count» statements select ⌝ }
+    requires { ⌜ count ≤ maxStatements ⌝ ∗ ⌜ «select_count» ≤ maxSelects ⌝ }
+    ensures { λ r. ⌜ r ≡ searchLent «variable_count» (take count statements) (take «select_count» select) ⌝ }
 {
-    search(variable_count, &statements, &select)
+    search(
+        variable_count,
+        &statements[..count],
+        &select[..select_count],
+    )
 }
-
-// One statement more.
-pub fn search_too_many(
-    variable_count: u64,
-    statements: [Statement; ONE_TOO_MANY],
-    select: [Var; 1],
-) -> Found
-    ensures { λ r. ⌜ r ≡ searchLent «variable_count» statements select ⌝ }
-{
-    search(variable_count, &statements, &select)
-}
-
-pub const ONE_TOO_MANY: usize = MAX_SEARCHED + 1;

@@ -1,7 +1,6 @@
 // Cases of `replay`: a query (crate `given`). Written is the refusal, or the plan, the plans listed from it with their costs, and the
 // indexes that stand again after the last. Or what the check of the query alone says. compare/queries.rs makes cases and answers.
 use plan::Plan;
-use planner::Planned;
 use query::Query;
 use refusal::Refusal;
 use refusal::Verdict;
@@ -71,35 +70,6 @@ fn put_again(plan: Plan) {
     put_indexes(scans, plan.scan_count);
 }
 
-// The plan: over lent slices where a query has one select and one or two statements, or one too many; else by value.
-fn planned_of(query: Query) -> Planned {
-    let statements = query.where_statements;
-    let select = query.select;
-    let n = query.variable_count;
-    let items = statements.items;
-    let chosen = select.items;
-    let v = chosen[0];
-    let x = items[0];
-    let y = items[1];
-    if select.count == 1 {
-        if statements.count == 1 {
-            return lent::plan_one(n, [x], [v]);
-        }
-        if statements.count == 2 {
-            return lent::plan_pair(n, [x, y], [v]);
-        }
-        if statements.count == lent::ONE_TOO_MANY {
-            return lent::plan_too_many(n, [x; lent::ONE_TOO_MANY], [v]);
-        }
-    }
-    if select.count == 0 {
-        if statements.count == 1 {
-            return lent::plan_no_select(n, [x], []);
-        }
-    }
-    planner::plan(query)
-}
-
 // A refusal comes with the plan of nothing, of which there is nothing to write.
 fn put_refused(r: Refusal, plan: Plan) {
     written::put_refusal(r);
@@ -107,7 +77,7 @@ fn put_refused(r: Refusal, plan: Plan) {
 }
 
 fn put_answer(query: Query) {
-    let planned = planned_of(query);
+    let planned = lent::plan_query(query);
     let verdict = planned.verdict;
     let plan = planned.plan;
     match verdict {

@@ -11,7 +11,7 @@ use written::put_after;
 pub fn put_case(text: &[u8], start: usize) -> usize {
     let reading = given::read_query(text, start);
     let query = reading.query;
-    let found = found_in(query);
+    let found = lent_search::search_query(query);
     put_found(found);
     reading.next
 }
@@ -20,38 +20,6 @@ fn put_order(order: [usize; MAX_SEARCHED]) {
     for i in 0..MAX_SEARCHED {
         put_after(order[i] as u64);
     }
-}
-
-// The search: over lent slices where a query has one select and one, two, six or seven statements; else by value.
-fn found_in(query: Query) -> Found {
-    let statements = query.where_statements;
-    let select = query.select;
-    let n = query.variable_count;
-    let items = statements.items;
-    let chosen = select.items;
-    let v = chosen[0];
-    let a = items[0];
-    let b = items[1];
-    let c = items[2];
-    let d = items[3];
-    let e = items[4];
-    let f = items[5];
-    let g = items[6];
-    if select.count == 1 {
-        if statements.count == 1 {
-            return lent_search::search_one(n, [a], [v]);
-        }
-        if statements.count == 2 {
-            return lent_search::search_pair(n, [a, b], [v]);
-        }
-        if statements.count == MAX_SEARCHED {
-            return lent_search::search_most(n, [a, b, c, d, e, f], [v]);
-        }
-        if statements.count == lent_search::ONE_TOO_MANY {
-            return lent_search::search_too_many(n, [a, b, c, d, e, f, g], [v]);
-        }
-    }
-    search::search(query)
 }
 
 fn put_found(found: Found) {
