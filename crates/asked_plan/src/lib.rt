@@ -31,12 +31,12 @@ fn plan_for(words: &[u64]) -> Planned
 {
     let query = asked::read_query(words);
     if asked::word_at(words, asked::TASK) == asked::SEARCH {
-        let found = search::search(query);
+        let found = lent_search::search_query(query);
         let verdict = found.verdict;
         let plan = found.plan;
         return Planned { verdict, plan };
     }
-    planner::plan(query)
+    lent::plan_query(query)
 }
 
 fn with_cost(plan: Plan) -> Answer

@@ -14,8 +14,8 @@ plan-for-spec =
     (λ c.
     let s = c .before in
     let t = s .before in
-    planned-search _ _ _ (t .before .word-at .ensures) (t .before .before .read-query .ensures) _ (t .if1 .taken) (s .search .ensures))
+    planned-search _ _ _ (t .before .word-at .ensures) (t .before .before .read-query .ensures) _ (t .if1 .taken) (s .search-query .ensures))
     (λ c κs. search needs)
     (λ c.
     let t = c .before in
-    planned-given _ _ _ (t .before .word-at .ensures) (t .before .before .read-query .ensures) _ (t .if1 .left) (c .plan2 .ensures)))
+    planned-given _ _ _ (t .before .word-at .ensures) (t .before .before .read-query .ensures) _ (t .if1 .left) (c .plan-query .ensures)))
