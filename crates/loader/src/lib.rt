@@ -40,7 +40,7 @@ pub extern "C" fn loader_plan(
     ensures { λ r. ⌜ now (answer .exit) ≡ answerOf (plannedOf (now (query .entry)) .verdict) 0 0 ⌝ }
     ensures { λ r. ⌜ now (plan .exit) ≡ planAfter (plannedOf (now (query .entry)) .verdict) (plannedOf (now (query .entry)) .plan) (now (plan .entry)) ⌝ }
 {
-    let planned = planner::plan(words::read_query(query));
+    let planned = lent::plan_query(words::read_query(query));
     let verdict = planned.verdict;
     *answer = answer_of(verdict, 0, 0);
     if let Verdict::Refused(_) = verdict {
@@ -64,7 +64,7 @@ pub extern "C" fn loader_search(
     ensures { λ r. ⌜ now (order .exit) ≡ orderAfter (foundOf (now (query .entry)) .verdict) (foundOf (now (query .entry)) .order) (now (order .entry)) ⌝ }
     ensures { λ r. ⌜ now (plan .exit) ≡ planAfter (foundOf (now (query .entry)) .verdict) (foundOf (now (query .entry)) .plan) (now (plan .entry)) ⌝ }
 {
-    let found = search::search(words::read_query(query));
+    let found = lent_search::search_query(words::read_query(query));
     let verdict = found.verdict;
     *answer = answer_of(verdict, found.cost, 0);
     if let Verdict::Refused(_) = verdict {
