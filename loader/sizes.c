@@ -35,18 +35,59 @@ SAME(NAME_ENDS);
 SAME(TEXT_TOO_SHORT);
 SAME(TOO_MANY_ELEMENTS);
 
+SAME(AEVT);
+SAME(AVET);
+SAME(EAVT);
+SAME(OUT_OUT);
+SAME(IN_OUT);
+SAME(IN_IN);
+
+/* Each struct's words, and the place of each of its fields. The code names no place for a record's first word. */
 #define IS(words, size) _Static_assert((words) * sizeof(uint64_t) == (size), #words)
+#define AT(place, of, field) _Static_assert((place) * sizeof(uint64_t) == offsetof(struct loader_##of, field), #of ": " #field)
+#define FIRST(of, field) AT(0, of, field)
+
 IS(ANSWER_WORDS, sizeof(struct loader_answer));
+AT(ANSWER_NUMBER, answer, number);
+AT(ANSWER_PLACE, answer, place);
+AT(ANSWER_FIRST, answer, first);
+AT(ANSWER_SECOND, answer, second);
+
 IS(STATEMENT_WORDS, sizeof(struct loader_statement));
-IS(STATEMENTS_AT, offsetof(struct loader_query, statements));
-IS(VARIABLES_AT, offsetof(struct loader_query, select));
+FIRST(statement, entity);
+AT(STATEMENT_ATTRIBUTE, statement, attribute);
+AT(STATEMENT_IS_CONSTANT, statement, is_constant);
+AT(STATEMENT_VALUE, statement, value);
+
 IS(QUERY_WORDS, sizeof(struct loader_query));
+AT(VARIABLE_COUNT_AT, query, variable_count);
+AT(STATEMENT_COUNT_AT, query, statement_count);
+AT(SELECT_COUNT_AT, query, select_count);
+AT(STATEMENTS_AT, query, statements);
+AT(VARIABLES_AT, query, select);
+
 IS(SCAN_WORDS, sizeof(struct loader_scan));
+FIRST(scan, index);
+AT(SCAN_FLOW, scan, flow);
+AT(SCAN_ENTITY, scan, entity);
+AT(SCAN_ATTRIBUTE, scan, attribute);
+AT(SCAN_VALUE, scan, value);
+
 IS(SLOT_WORDS, sizeof(struct loader_slot));
-IS(SCANS_AT, offsetof(struct loader_plan, scans));
-IS(SLOTS_AT, offsetof(struct loader_plan, slots));
-IS(SELECT_AT, offsetof(struct loader_plan, select));
+FIRST(slot, is_constant);
+AT(SLOT_VALUE, slot, value);
+
 IS(PLAN_WORDS, sizeof(struct loader_plan));
-IS(COUNTERS_AT, offsetof(struct loader_swaps, counters));
+AT(SCAN_COUNT_AT, plan, scan_count);
+AT(SLOT_COUNT_AT, plan, slot_count);
+AT(SELECT_COUNT_AT, plan, select_count);
+AT(SCANS_AT, plan, scans);
+AT(SLOTS_AT, plan, slots);
+AT(SELECT_AT, plan, select);
+
 IS(STATE_WORDS, sizeof(struct loader_swaps));
+AT(ELEMENT_COUNT_AT, swaps, element_count);
+AT(POSITION_AT, swaps, position);
+AT(COUNTERS_AT, swaps, counters);
+
 IS(SWAP_WORDS, sizeof(uint64_t[2]));

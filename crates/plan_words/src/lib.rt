@@ -10,9 +10,17 @@ use plan::Slot;
 use plan::SlotDefinition;
 use plan::SlotRecord;
 use words::PLAN_WORDS;
+use words::SCAN_ATTRIBUTE;
+use words::SCAN_COUNT_AT;
+use words::SCAN_ENTITY;
+use words::SCAN_FLOW;
+use words::SCAN_VALUE;
 use words::SCAN_WORDS;
 use words::SCANS_AT;
 use words::SELECT_AT;
+use words::SELECT_COUNT_AT;
+use words::SLOT_COUNT_AT;
+use words::SLOT_VALUE;
 use words::SLOT_WORDS;
 use words::SLOTS_AT;
 ghost use mathlib.Core.Path.{_≡_};
@@ -29,9 +37,9 @@ pub fn words_of_plan(plan: Plan) -> [u64; PLAN_WORDS]
     let slots = plan.slots;
     let select = plan.select;
     let mut words = [0u64; PLAN_WORDS];
-    words[0] = plan.scan_count as u64;
-    words[1] = plan.slot_count as u64;
-    words[2] = plan.select_count as u64;
+    words[SCAN_COUNT_AT] = plan.scan_count as u64;
+    words[SLOT_COUNT_AT] = plan.slot_count as u64;
+    words[SELECT_COUNT_AT] = plan.select_count as u64;
     write_scans(scans, &mut words);
     write_slots(slots, &mut words);
     write_select(select, &mut words);
@@ -79,10 +87,10 @@ fn write_scan(scan: Scan, at: usize, words: &mut [u64])
     let index = scan.index;
     let flow = scan.flow;
     words[at] = index_word(index);
-    words[at + 1] = flow_word(flow);
-    words[at + 2] = scan.entity.0 as u64;
-    words[at + 3] = scan.attribute.0;
-    words[at + 4] = scan.value.0 as u64;
+    words[at + SCAN_FLOW] = flow_word(flow);
+    words[at + SCAN_ENTITY] = scan.entity.0 as u64;
+    words[at + SCAN_ATTRIBUTE] = scan.attribute.0;
+    words[at + SCAN_VALUE] = scan.value.0 as u64;
 }
 
 fn write_slot(slot: SlotRecord, at: usize, words: &mut [u64])
@@ -91,7 +99,7 @@ fn write_slot(slot: SlotRecord, at: usize, words: &mut [u64])
 {
     let definition = slot.definition;
     words[at] = constant_word(definition);
-    words[at + 1] = value_word(definition);
+    words[at + SLOT_VALUE] = value_word(definition);
 }
 
 fn write_selected(slot: Slot, at: usize, words: &mut [u64])
@@ -105,9 +113,9 @@ fn index_word(index: Index) -> u64
     ensures { λ r. ⌜ r ≡ indexWord index ⌝ }
 {
     match index {
-        Index::Aevt => 0,
-        Index::Avet => 1,
-        Index::Eavt => 2,
+        Index::Aevt => words::AEVT,
+        Index::Avet => words::AVET,
+        Index::Eavt => words::EAVT,
     }
 }
 
@@ -115,9 +123,9 @@ fn flow_word(flow: Flow) -> u64
     ensures { λ r. ⌜ r ≡ flowWord flow ⌝ }
 {
     match flow {
-        Flow::OutOut => 0,
-        Flow::InOut => 1,
-        Flow::InIn => 2,
+        Flow::OutOut => words::OUT_OUT,
+        Flow::InOut => words::IN_OUT,
+        Flow::InIn => words::IN_IN,
     }
 }
 

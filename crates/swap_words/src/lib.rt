@@ -6,7 +6,11 @@ use permutation::Permutations;
 ghost use mathlib.Core.Path.{_≡_};
 ghost use Rattle.swap_words.specs.State.{countersIn, stateOfWords, wordsOfState};
 
-// Where the counters start, and how many words a state has.
+// Where each part of a state starts, and how many words it has.
+const ELEMENT_COUNT_AT: usize = 0;
+
+const POSITION_AT: usize = 1;
+
 const COUNTERS_AT: usize = 2;
 
 pub const STATE_WORDS: usize = COUNTERS_AT + MAX_ELEMENTS;
@@ -18,8 +22,8 @@ pub fn read_state(words: &[u64; STATE_WORDS]) -> Permutations
     let ks = read_counters(words);
     Permutations {
         ks,
-        n: words[0] as usize,
-        i: words[1] as usize,
+        n: words[ELEMENT_COUNT_AT] as usize,
+        i: words[POSITION_AT] as usize,
     }
 }
 
@@ -41,8 +45,8 @@ pub fn words_of_state(state: Permutations) -> [u64; STATE_WORDS]
 {
     let ks = state.ks;
     let mut words = [0u64; STATE_WORDS];
-    words[0] = state.n as u64;
-    words[1] = state.i as u64;
+    words[ELEMENT_COUNT_AT] = state.n as u64;
+    words[POSITION_AT] = state.i as u64;
     let mut i: usize = 0;
     while i < MAX_ELEMENTS {
         words[COUNTERS_AT + i] = ks[i] as u64;

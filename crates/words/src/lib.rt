@@ -1,12 +1,11 @@
 // Plans and queries as words, for callers in other languages: each is an array of u64 with every number at a fixed place. This crate
 // reads them; `plan_words` writes a plan.
 //
-// A plan: its counts of scans, slots and selects; then room for MAX_SCANS scans of five words (index 0 aevt, 1 avet, 2 eavt; flow 0
-// out-out, 1 in-out, 2 in-in; entity's slot, attribute, value's slot), for MAX_SLOTS slots of two (1 for a constant, else 0; its value),
-// and for MAX_SELECTS selects of one (the slot).
+// A plan: its counts of scans, slots and selects; then room for MAX_SCANS scans (index, flow, entity's slot, attribute, value's slot), for
+// MAX_SLOTS slots (1 for a constant, else 0; its value), and for MAX_SELECTS selects of one word (the slot).
 //
-// A query: its counts of variables, statements and selects; then room for MAX_STATEMENTS statements of four words (entity's
-// variable, attribute, 1 for a constant, else 0; the constant or the value's variable), and for MAX_SELECTS selects of one (the variable).
+// A query: its counts of variables, statements and selects; then room for MAX_STATEMENTS statements (entity's variable, attribute, 1
+// for a constant, else 0; the constant or the value's variable), and for MAX_SELECTS selects of one word (the variable).
 //
 // Any words say a plan, and any say a query. Words that no plan of the planner has are read so that the plan check refuses them:
 // see specs/Words.antt.
@@ -35,10 +34,40 @@ ghost use Rattle.capacity.specs.Capacity.{maxScans, maxSlots, maxSelects, maxSt
 ghost use Rattle.query.specs.Query.{largest};
 ghost use Rattle.words.specs.Words.{isNoKind, indexOf, flowOf, definitionOf, valueOf, scanAt, slotAt, selectedAt, statementAt, variableAt, scansIn, slotsIn, selectsIn, statementsIn, variablesIn, planOfWords, queryOfWords};
 
-// Where each part of a plan starts, and how many words a plan has.
+// The numbers of an index and of a flow.
+pub const AEVT: u64 = 0;
+
+pub const AVET: u64 = 1;
+
+pub const EAVT: u64 = 2;
+
+pub const OUT_OUT: u64 = 0;
+
+pub const IN_OUT: u64 = 1;
+
+pub const IN_IN: u64 = 2;
+
+// The words of a scan, after the first, which is its index; and of a slot, after the first, which says whether it is a constant.
+pub const SCAN_FLOW: usize = 1;
+
+pub const SCAN_ENTITY: usize = 2;
+
+pub const SCAN_ATTRIBUTE: usize = 3;
+
+pub const SCAN_VALUE: usize = 4;
+
 pub const SCAN_WORDS: usize = 5;
 
+pub const SLOT_VALUE: usize = 1;
+
 pub const SLOT_WORDS: usize = 2;
+
+// Where each part of a plan starts, and how many words a plan has.
+pub const SCAN_COUNT_AT: usize = 0;
+
+pub const SLOT_COUNT_AT: usize = 1;
+
+pub const SELECT_COUNT_AT: usize = 2;
 
 pub const SCANS_AT: usize = 3;
 
@@ -48,8 +77,18 @@ pub const SELECT_AT: usize = SLOTS_AT + SLOT_WORDS * MAX_SLOTS;
 
 pub const PLAN_WORDS: usize = SELECT_AT + MAX_SELECTS;
 
-// The same of a query.
+// The same of a query. The first word of a statement is its entity; the count of selects stands where that of a plan does.
+const STATEMENT_ATTRIBUTE: usize = 1;
+
+const STATEMENT_IS_CONSTANT: usize = 2;
+
+const STATEMENT_VALUE: usize = 3;
+
 pub const STATEMENT_WORDS: usize = 4;
+
+const VARIABLE_COUNT_AT: usize = 0;
+
+const STATEMENT_COUNT_AT: usize = 1;
 
 const STATEMENTS_AT: usize = 3;
 
@@ -66,11 +105,11 @@ pub fn read_plan(words: &[u64; PLAN_WORDS]) -> Plan
     let select = read_select(words);
     Plan {
         scans,
-        scan_count: words[0] as usize,
+        scan_count: words[SCAN_COUNT_AT] as usize,
         slots,
-        slot_count: words[1] as usize,
+        slot_count: words[SLOT_COUNT_AT] as usize,
         select,
-        select_count: words[2] as usize,
+        select_count: words[SELECT_COUNT_AT] as usize,
     }
 }
 
@@ -81,14 +120,14 @@ pub fn read_query(words: &[u64; QUERY_WORDS]) -> Query
     let statements = read_statements(words);
     let variables = read_variables(words);
     Query {
-        variable_count: words[0],
+        variable_count: words[VARIABLE_COUNT_AT],
         where_statements: Statements {
             items: statements,
-            count: words[1] as usize,
+            count: words[STATEMENT_COUNT_AT] as usize,
         },
         select: Selects {
             items: variables,
-            count: words[2] as usize,
+            count: words[SELECT_COUNT_AT] as usize,
         },
     }
 }
@@ -177,13 +216,13 @@ fn read_scan(words: &[u64; PLAN_WORDS], i: usize) -> Scan
 {
     let at = SCANS_AT + SCAN_WORDS * i;
     let index = words[at];
-    let flow = words[at + 1];
+    let flow = words[at + SCAN_FLOW];
     Scan {
         index: index_of(index, flow),
         flow: flow_of(index, flow),
-        entity: Slot(short(words[at + 2])),
-        attribute: Aid(words[at + 3]),
-        value: Slot(short(words[at + 4])),
+        entity: Slot(short(words[at + SCAN_ENTITY])),
+        attribute: Aid(words[at + SCAN_ATTRIBUTE]),
+        value: Slot(short(words[at + SCAN_VALUE])),
     }
 }
 
@@ -193,7 +232,7 @@ fn read_slot(words: &[u64; PLAN_WORDS], i: usize) -> SlotRecord
 {
     let at = SLOTS_AT + SLOT_WORDS * i;
     SlotRecord {
-        definition: definition_of(words[at], words[at + 1]),
+        definition: definition_of(words[at], words[at + SLOT_VALUE]),
     }
 }
 
@@ -211,8 +250,8 @@ fn read_statement(words: &[u64; QUERY_WORDS], i: usize) -> Statement
     let at = STATEMENTS_AT + STATEMENT_WORDS * i;
     Statement {
         entity: Var(short(words[at])),
-        attribute: Aid(words[at + 1]),
-        value: value_of(words[at + 2], words[at + 3]),
+        attribute: Aid(words[at + STATEMENT_ATTRIBUTE]),
+        value: value_of(words[at + STATEMENT_IS_CONSTANT], words[at + STATEMENT_VALUE]),
     }
 }
 
@@ -238,7 +277,7 @@ fn short(word: u64) -> u16
 fn is_no_kind(index: u64, flow: u64) -> bool
     ensures { λ r. ⌜ r ≡ isNoKind index flow ⌝ }
 {
-    2 < index || 2 < flow
+    EAVT < index || IN_IN < flow
 }
 
 fn index_of(index: u64, flow: u64) -> Index
@@ -247,10 +286,10 @@ fn index_of(index: u64, flow: u64) -> Index
     if is_no_kind(index, flow) {
         return Index::Eavt;
     }
-    if index == 0 {
+    if index == AEVT {
         return Index::Aevt;
     }
-    if index == 1 {
+    if index == AVET {
         return Index::Avet;
     }
     Index::Eavt
@@ -262,10 +301,10 @@ fn flow_of(index: u64, flow: u64) -> Flow
     if is_no_kind(index, flow) {
         return Flow::OutOut;
     }
-    if flow == 0 {
+    if flow == OUT_OUT {
         return Flow::OutOut;
     }
-    if flow == 1 {
+    if flow == IN_OUT {
         return Flow::InOut;
     }
     Flow::InIn
