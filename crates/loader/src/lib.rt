@@ -23,7 +23,15 @@ ghost use Rattle.permutation.specs.Swaps.{freshOf};
 ghost use Rattle.words.specs.Words.{planOfWords};
 ghost use Rattle.loader.specs.Answers.{numberOf, placeOf, answerOf, bit, planAfter, orderAfter, stateAfter, swapAfter, plannedOf, foundOf, steppedOf, swappedOf, evaluatedWords, formattedWords, nameWords};
 
-// How many words an answer has.
+// Where each part of an answer stands, and how many words it has.
+const ANSWER_NUMBER: usize = 0;
+
+const ANSWER_PLACE: usize = 1;
+
+const ANSWER_FIRST: usize = 2;
+
+const ANSWER_SECOND: usize = 3;
+
 pub const ANSWER_WORDS: usize = 4;
 
 // A swap's two positions.
@@ -268,7 +276,12 @@ fn place_of(verdict: Verdict) -> u64
 fn answer_of(verdict: Verdict, first: u64, second: u64) -> [u64; ANSWER_WORDS]
     ensures { λ r. ⌜ r ≡ answerOf verdict first second ⌝ }
 {
-    [number_of(verdict), place_of(verdict), first, second]
+    let mut answer = [0u64; ANSWER_WORDS];
+    answer[ANSWER_NUMBER] = number_of(verdict);
+    answer[ANSWER_PLACE] = place_of(verdict);
+    answer[ANSWER_FIRST] = first;
+    answer[ANSWER_SECOND] = second;
+    answer
 }
 
 fn bit_of(said: bool) -> u64
