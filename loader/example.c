@@ -1,5 +1,5 @@
-/* Which heater has its level switch bridged? Plans the question, prints the plan's text and cost, and evaluates it, a row at a
-   time; then lists the orders in which the heaters may be tried. Attribute 1: a heater's level switch. Attribute 2: a switch's
+/* Which heater has its level switch bridged? Plans the question, prints the plan's text and cost, and evaluates it, several rows a
+   call; then lists the orders in which the heaters may be tried. Attribute 1: a heater's level switch. Attribute 2: a switch's
    state, 9 is bridged. */
 #include "loader.h"
 #include <stdio.h>
@@ -37,7 +37,7 @@ int main(void)
     static const uint8_t names[] = "heaterswitch";
     static const uint64_t ends[] = { 6, 12, 12 }; /* a slot for each variable and each constant: the constant's name is not read */
     const uint8_t *name;
-    uint64_t rows[1], from = 0, heaters[] = { 10, 11, 12 }, swap[2], heater;
+    uint64_t rows[32], from = 0, heaters[] = { 10, 11, 12 }, swap[2], heater;
     int length;
 
     if (loader_search(&query, order, &plan, &answer) != 0)
@@ -57,7 +57,7 @@ int main(void)
         if (loader_evaluate(&plan, aevt, WORDS(aevt), avet, WORDS(avet), eavt, WORDS(eavt), from, rows, WORDS(rows), &answer) != 0)
             return refused("evaluate", &answer);
         for (uint64_t i = 0; i < answer.first; i++)
-            printf("%.*s %llu\n", length, (const char *)name, (unsigned long long)rows[i]);
+            printf("%.*s %llu\n", length, (const char *)name, (unsigned long long)rows[i * plan.select_count]);
         from += answer.first;
     } while (answer.second == 1);
 

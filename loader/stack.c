@@ -81,5 +81,6 @@ int main(void)
         printf("stack of loader_%s: %zu bytes\n", calls[i].name, bytes);
         most = bytes > most ? bytes : most;
     }
+    printf("the deepest takes %zu of %d bytes\n", most, LOADER_STACK);
     return most > LOADER_STACK;
 }
