@@ -129,11 +129,18 @@ fn answer(tables: &Tables, window: &Window) -> String {
     format!("{}, rows {}, {} buffer{}", text(verdict), count, if more { "more follow," } else { "none follows," }, words)
 }
 
-// The check of the tables by itself, and then the windows.
+// The check of the tables by itself, and then the windows; before the first of each plan the check of evaluation by itself.
 fn pair(group: &Group) -> Pair {
     let mut cases = vec![table_cases::check()];
     let mut answers = format!("tables {}\n", text(table_fault(&group.tables)));
+    let mut checked = Vec::new();
     for window in &group.windows {
+        let plan = numbers(&window.0);
+        if !checked.contains(&plan) {
+            cases.push(table_cases::evaluation(&plan));
+            answers += &format!("evaluation {}\n", text(refusal(&window.0, &group.tables)));
+            checked.push(plan);
+        }
         cases.push(table_cases::window(&numbers(&window.0), window.1, window.2));
         answers += &(answer(&group.tables, window) + "\n");
     }

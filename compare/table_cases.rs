@@ -7,6 +7,7 @@ const WINDOW: u64 = 0;
 const QUERY: u64 = 1;
 const CHECK: u64 = 2;
 const KEY: u64 = 3;
+const EVALUATION: u64 = 4;
 
 // A plan, the row to start at, and the words of room.
 pub fn window(plan: &str, from: u64, room: usize) -> String {
@@ -21,6 +22,11 @@ pub fn query(query: &str, room: usize) -> String {
 // The check of the tables.
 pub fn check() -> String {
     CHECK.to_string()
+}
+
+// A plan, and whether evaluation refuses it.
+pub fn evaluation(plan: &str) -> String {
+    format!("{} {}", EVALUATION, plan)
 }
 
 // A key: the number of its table, how many of its words count, and three words.

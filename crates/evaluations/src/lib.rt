@@ -25,6 +25,22 @@ pub fn put_case<'a>(
     room.next
 }
 
+// The plan that begins at a place: whether evaluation refuses it over these tables. Returns where to read on.
+pub fn put_check<'a>(
+    text: &[u8],
+    start: usize,
+    aevt: &'a [u64],
+    avet: &'a [u64],
+    eavt: &'a [u64],
+) -> usize {
+    let reading = given::read_plan(text, start);
+    let plan = reading.plan;
+    put(b"evaluation ");
+    written::put_verdict(eval::check(plan, aevt, avet, eavt));
+    put(b"\n");
+    reading.next
+}
+
 fn put_answer(answer: Evaluated) {
     let verdict = answer.verdict;
     written::put_verdict(verdict);

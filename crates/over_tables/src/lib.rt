@@ -1,7 +1,7 @@
 // Cases of `replay` over tables: three tables (crate `given`), how many cases follow, and these. A case is 0 and a plan with a window
 // (crate `evaluations`), or 1 and a query with room (crate `answers`), or 2: the check of the tables alone, or 3 and a key: the table (0
 // aevt, 1 avet, 2 eavt), how many of its words count, and three words. Written are the numbers of the first row that begins with the key
-// and of the one past the last, whether its three words are a row, and those rows.
+// and of the one past the last, whether its three words are a row, and those rows. Or it is 4 and a plan: whether evaluation refuses it.
 use datom::WORDS;
 use given::TABLE_WORDS;
 use written::put;
@@ -16,6 +16,8 @@ const WINDOW: u64 = 0;
 const QUERY: u64 = 1;
 
 const CHECK: u64 = 2;
+
+const EVALUATION: u64 = 4;
 
 // The tables that begin at a place, and the cases over them. Returns where to read on.
 pub fn put_case(text: &[u8], start: usize) -> usize {
@@ -103,6 +105,9 @@ fn put_one<'a>(
         put_check(aevt, avet, eavt);
         return form.next;
     }
+    if form.value == EVALUATION {
+        return evaluations::put_check(text, form.next, aevt, avet, eavt);
+    }
     let number = numbers::number_at(text, form.next);
     if number.value == 0 {
         return put_key(text, number.next, aevt);
@@ -141,11 +146,18 @@ fn put_range(table: &[u64], inputs: usize, first: u64, second: u64, third: u64) 
     put(b"key");
     put_after(low as u64);
     put_after((low + rows.len() / WORDS) as u64);
-    if tables::is_row(table, first, second, third) {
+    if is_row(table, first, second, third) {
         put(b", a row:");
     } else {
         put(b", no row:");
     }
     written::put_words(rows);
     put(b"\n");
+}
+
+// Whether some row begins with all three words.
+fn is_row(table: &[u64], first: u64, second: u64, third: u64) -> bool {
+    let mut low: usize = 0;
+    let rows = tables::range(table, tables::KEY_WORDS, first, second, third, &mut low);
+    0 < rows.len()
 }

@@ -1,5 +1,6 @@
 pub mod Order
 pub mod Table
+pub mod WordByWord
 pub mod Search
 pub mod Matching
 pub mod Among

@@ -1,6 +1,6 @@
 -- The rows that begin with a key are those between two bounds: below the first none begins with it, nor from the second on.
 use mathlib.Core.Path.{_≡_, refl, ap, _∙_}
-use mathlib.Core.Bool.{Bool, true, false, cond, and-false}
+use mathlib.Core.Bool.{Bool, true, false, cond}
 use mathlib.Core.List.{List, [], _∷_, _++_, map, append-nil}
 use Prim.Native.Nat.{ℕ, zero, suc, _+_, _*_, _-_, _/_, _≤_, _<_}
 use native.Mathlib.Omega.{arith}
@@ -9,8 +9,8 @@ use lib.ListN.{length, take, drop, length-drop}
 use lib.Seq.{length-take-le}
 use Rattle.datom.specs.Fact.{words}
 use Rattle.lists.specs.Span.{span}
-use Rattle.tables.specs.Rows.{count, row, rowsOf, ascending, begins, keep, matching, flat, Bound, Range}
-use Rattle.tables.proofs.Order.{begins-passes}
+use Rattle.tables.specs.Rows.{count, row, rowsOf, before, ascending, begins, keep, matching, flat, FirstRow, PastRows, Range}
+use Rattle.tables.proofs.Order.{before-begins}
 use Rattle.tables.proofs.Table.{flat-rows}
 
 -- numbers of which first m come, and then n
@@ -62,27 +62,28 @@ module _ (p : ℕ → Bool) where
       )
       (keep-all low (high - low) (λ k f h. b k f (omega arith)))
 
-module _ (t ks : List ℕ) (low high : ℕ) (first : Bound t 0 ks false low) (last : Bound t low ks true high) (asc : ascending (rowsOf t) ≡ true) where
+module _ (t ks : List ℕ) (low high : ℕ) (first : FirstRow t ks low) (last : PastRows t ks low high) (asc : ascending (rowsOf t) ≡ true) where
   -- the numbers of the rows that begin with a key
   pub bounds-match : matching t ks ≡ span low (high - low)
   unfolding matching
   bounds-match =
-      keep-window (λ i. begins (row t i) ks) (count t) low high (last .at-least) (omega (arith, first .at-most, last .at-most))
-      (λ k h. begins-passes (row t k) ks ∙ simp (first .passed asc k (omega arith) h, and-false))
-      (λ k g h. begins-passes (row t k) ks ∙ simp (last .passed asc k g h, first .stopped asc k g (omega (arith, first .at-most, last .at-most))))
-      (λ k g h. begins-passes (row t k) ks ∙ simp (last .stopped asc k g h))
+      keep-window (λ i. begins (row t i) ks) (count t) low high (last .at-least) (last .within)
+      (λ k h. before-begins (row t k) ks (first .below asc k h))
+      (λ k g h. last .begin asc k g h)
+      (λ k g h. last .past asc k g h)
 
 -- and their words, the part of the table between the bounds
-pub range-found : (t ks : List ℕ) (low high : ℕ) → Bound t 0 ks false low → Bound t low ks true high → Range t ks (take (words * high - words * low) (drop (words * low) t)) low
+pub range-found : (t ks : List ℕ) (low high : ℕ) → FirstRow t ks low → PastRows t ks low high
+    → Range t ks (take (words * high - words * low) (drop (words * low) t)) low
 range-found t ks low high first last =
     let r : List ℕ = take (words * high - words * low) (drop (words * low) t) in
-    let n : length r ≡ words * high - words * low = length-take-le _ (drop (words * low) t) (simp length-drop (omega (arith, first .at-most, last .at-most))) in
+    let n : length r ≡ words * high - words * low = length-take-le _ (drop (words * low) t) (simp length-drop (omega (arith, last .within))) in
     let many : length r / words ≡ high - low = rw n (omega (arith, last .at-least)) in
     let all : words * (high - low) ≡ words * high - words * low = omega arith in
     record {
       starts = first;
       whole = rw n (omega (arith, last .at-least));
-      within = rw many (omega (arith, first .at-most, last .at-least, last .at-most));
+      within = rw many (omega (arith, last .at-least, last .within));
       part = rw n refl;
       numbers = λ asc. rw many (bounds-match t ks low high first last asc);
       rows = λ asc. rw (bounds-match t ks low high first last asc, flat-rows t low (high - low), all) refl;

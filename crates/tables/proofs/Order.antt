@@ -1,14 +1,14 @@
 -- The order of rows and keys, word by word: the first word that differs decides it.
 use mathlib.Core.Path.{_≡_, refl, sym, _∙_}
 use mathlib.Core.Logic.{_⊎_, inl, inr}
-use mathlib.Core.Bool.{Bool, true, false, not, _&&_, false≢true, and-true, and-false, or-false, and-not-self}
+use mathlib.Core.Bool.{Bool, true, false, not, _&&_, _||_, false≢true, and-true, and-false, or-false, and-not-self}
 use mathlib.Core.List.{List, [], _∷_}
 use Prim.Native.Nat.{ℕ, zero, suc, _-_, _≤_, _<_}
 use native.Mathlib.Omega.{arith}
 use lib.ListN.{length, take}
 use lib.Dec.{ltb, eqb}
 use borrow.Author.Tests.{ltb-true, ltb-false, lt-ltb, le-ltb, eqb-true, eqb-false, eq-eqb, ne-eqb}
-use Rattle.tables.specs.Rows.{before, begins, passes}
+use Rattle.tables.specs.Rows.{before, begins}
 use Rattle.tables.specs.Check.{sameRow}
 
 -- no test is false and true
@@ -27,6 +27,10 @@ lt-or-ge k i = go (ltb k i) refl
     go : (b : Bool) → ltb k i ≡ b → (k < i) ⊎ (i ≤ k)
     go true e = inl (ltb-true k i e)
     go false e = inr (ltb-false k i e)
+
+-- a row passes a key where it comes before it or, with p, begins with it: two orders in one, so that each law is said once
+unfoldable pub passes : Bool → List ℕ → List ℕ → Bool
+passes p xs ks = before xs ks || (p && begins xs ks)
 
 -- to come before a key is to pass it where passing asks for no more
 pub passes-before : (xs ks : List ℕ) → passes false xs ks ≡ before xs ks
@@ -109,15 +113,12 @@ same-begins (k ∷ ks) (x ∷ xs) e = go (same-begins ks xs (omega arith)) (eqb 
     go rest true q = let s = eqb-true x k q in simp (q, eq-eqb k x (sym s)) rest
     go rest false q = let n = eqb-false x k q in simp (q, ne-eqb k x (λ s. n (sym s)))
 
--- a key of the first n words: none of them, or one and those after it
-pub key-none : (p : Bool) (xs ks : List ℕ) (n : ℕ) → n ≡ 0 → passes p xs (take n ks) ≡ p
-key-none p xs ks n e = rw e (passes-none p xs)
+-- one that comes before a key does not begin with it
+pub before-begins : (xs ks : List ℕ) → before xs ks ≡ true → begins xs ks ≡ false
+before-begins xs ks e = begins-passes xs ks ∙ simp (passes-before xs ks, e, and-false)
 
-module _ (p : Bool) (x k : ℕ) (xs ks : List ℕ) where
-  pub key-apart : (n : ℕ) → (n ≡ 0 → ⊥) → (x ≡ k → ⊥) → passes p (x ∷ xs) (take n (k ∷ ks)) ≡ ltb x k
-  key-apart zero h d = absurd (h refl)
-  key-apart (suc n) h d = passes-apart p x k xs (take n ks) d
-
-  pub key-same : (n : ℕ) → (n ≡ 0 → ⊥) → x ≡ k → passes p (x ∷ xs) (take n (k ∷ ks)) ≡ passes p xs (take (n - 1) ks)
-  key-same zero h e = absurd (h refl)
-  key-same (suc n) h e = let m : suc n - 1 ≡ n = omega arith in rw m (passes-same p x k xs (take n ks) e)
+-- a row that does not come before a key, and stands before one that begins with it, begins with it too
+pub begins-mono : (xs ys ks : List ℕ) → before xs ys ≡ true → before xs ks ≡ false → begins ys ks ≡ true → begins xs ks ≡ true
+begins-mono xs ys ks a b c =
+    let passed : passes true ys ks ≡ true = both (passes true ys ks) (not (passes false ys ks)) (sym (begins-passes ys ks) ∙ c) .0 in
+    begins-passes xs ks ∙ simp (passes-mono true xs ys ks (passes-before xs ys ∙ a) passed, passes-before xs ks, b)

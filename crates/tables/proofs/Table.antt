@@ -10,9 +10,8 @@ use lib.ListN.{length, getD, take, drop, length-drop, drop-of-length-le}
 use lib.Seq.{getD-take, getD-drop, length-take-le, take-add, drop-drop}
 use Rattle.datom.specs.Fact.{words}
 use Rattle.lists.specs.Span.{span}
-use Rattle.tables.specs.Rows.{count, row, before, ascending, passes, flat}
+use Rattle.tables.specs.Rows.{count, row, before, ascending, flat}
 use Rattle.tables.specs.Check.{sameRow, isAmong}
-use Rattle.tables.proofs.Order.{passes-before}
 
 -- a row has as many words as rows have
 pub row-length : (t : List ℕ) (i : ℕ) → i < count t → length (row t i) ≡ words
@@ -47,10 +46,10 @@ row-key t i h =
     let e : drop 3 (row t i) ≡ [] = drop-of-length-le (row t i) {i = 3} (omega arith) in
     row-words t i h ∙ ap (λ (l : List ℕ). getD t (words * i) 0 ∷ getD t (words * i + 1) 0 ∷ getD t (words * i + 2) 0 ∷ l) e
 
--- and to come before it is to pass the key of these words
-pub passes-row : (t : List ℕ) (i : ℕ) → i < count t → (xs : List ℕ)
-    → passes false xs (getD t (words * i) 0 ∷ getD t (words * i + 1) 0 ∷ getD t (words * i + 2) 0 ∷ []) ≡ before xs (row t i)
-passes-row t i h xs = passes-before xs _ ∙ ap (before xs) (sym (row-key t i h))
+-- and to come before it is to come before the key of these words
+pub before-row : (t : List ℕ) (i : ℕ) → i < count t → (xs : List ℕ)
+    → before xs (getD t (words * i) 0 ∷ getD t (words * i + 1) 0 ∷ getD t (words * i + 2) 0 ∷ []) ≡ before xs (row t i)
+before-row t i h xs = ap (before xs) (sym (row-key t i h))
 
 -- the numbers from i on, below n
 module _ (n i : ℕ) where

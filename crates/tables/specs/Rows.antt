@@ -1,6 +1,6 @@
 -- 01, "Tables and rows": a table is a list of words, some words a row, strictly ascending word by word.
 use mathlib.Core.Path.{_≡_}
-use Prim.Native.Nat.{ℕ, _+_, _*_, _-_, _/_, _%_, _≤_, _<_}
+use Prim.Native.Nat.{ℕ, _+_, _*_, _/_, _%_, _≤_, _<_}
 use mathlib.Core.List.{List, [], _∷_, _++_, map}
 use mathlib.Core.Bool.{Bool, true, false, cond, _&&_, _||_}
 use lib.ListN.{length, getD, take, drop}
@@ -60,22 +60,24 @@ factOf r = record { attribute = getD r 0 0; entity = getD r 1 0; value = getD r 
 abbrev pub key : ℕ → ℕ → ℕ → ℕ → List ℕ
 key n a b c = take n (a ∷ b ∷ c ∷ [])
 
--- a row comes before a key or, with past, begins with it
-unfoldable pub passes : Bool → List ℕ → List ℕ → Bool
-passes past xs ks = before xs ks || (past && begins xs ks)
+-- r is the first row that does not come before a key: every row below it does, and none from it on; where all do, it is how many rows
+-- there are. Which rows come before the key is said only of an ascending table
+pub record FirstRow (t ks : List ℕ) (r : ℕ) : Type 0 where
+  pub within : r ≤ count t
+  pub below : ascending (rowsOf t) ≡ true → (k : ℕ) → k < r → before (row t k) ks ≡ true
+  pub not-before : ascending (rowsOf t) ≡ true → (k : ℕ) → r ≤ k → k < count t → before (row t k) ks ≡ false
 
--- r is the number of the first row from number i on that does not pass a key; where all pass, it is how many rows there are, and i where
--- there are fewer. What passes is said only of an ascending table.
-pub record Bound (t : List ℕ) (i : ℕ) (ks : List ℕ) (past : Bool) (r : ℕ) : Type 0 where
+-- r is past the rows that begin with a key, which stand from row i on: every row from i on below r begins with it, and none from r on
+pub record PastRows (t ks : List ℕ) (i r : ℕ) : Type 0 where
   pub at-least : i ≤ r
-  pub at-most : r ≤ i + (count t - i)
-  pub passed : ascending (rowsOf t) ≡ true → (k : ℕ) → i ≤ k → k < r → passes past (row t k) ks ≡ true
-  pub stopped : ascending (rowsOf t) ≡ true → (k : ℕ) → r ≤ k → k < count t → passes past (row t k) ks ≡ false
+  pub within : r ≤ count t
+  pub begin : ascending (rowsOf t) ≡ true → (k : ℕ) → i ≤ k → k < r → begins (row t k) ks ≡ true
+  pub past : ascending (rowsOf t) ≡ true → (k : ℕ) → r ≤ k → k < count t → begins (row t k) ks ≡ false
 
--- r is the part of a table that holds its rows from number i on that begin with a key. i is the first row that does not come before the
--- key, and of an ascending table the part holds the rows that begin with it, all of them and no other
+-- r is the part of a table that holds its rows that begin with a key, all of them and no other, and i is the number of the first of them:
+-- the first row that does not come before the key. Which rows these are is said only of an ascending table
 pub record Range (t ks r : List ℕ) (i : ℕ) : Type 0 where
-  pub starts : Bound t 0 ks false i
+  pub starts : FirstRow t ks i
   pub whole : length r % words ≡ 0
   pub within : i + length r / words ≤ count t
   pub part : r ≡ take (length r) (drop (words * i) t)

@@ -6,11 +6,11 @@ ghost use mathlib.Core.Path.{_≡_};
 ghost use mathlib.Core.Bool.{true};
 ghost use mathlib.Core.List.{[], _∷_};
 ghost use Prim.Native.Nat.{_<_};
-ghost use Rattle.tables.specs.Rows.{count, row, rowsOf, ascending, key, passes, Bound, Range};
+ghost use Rattle.tables.specs.Rows.{count, row, rowsOf, before, ascending, begins, key, FirstRow, PastRows, Range};
 ghost use Rattle.tables.specs.Check.{isAmong, lengthsFault, missingFault, tablesFault};
 
 // The words that order a table's rows, and that a key can have.
-const KEY_WORDS: usize = 3;
+pub const KEY_WORDS: usize = 3;
 
 // The check of three tables: that nothing is wrong, or the first refusal.
 pub fn check_tables(aevt: &[u64], avet: &[u64], eavt: &[u64]) -> Verdict
@@ -58,7 +58,7 @@ fn is_ascending(table: &[u64]) -> bool
         let first = table[WORDS * i];
         let second = table[WORDS * i + 1];
         let third = table[WORDS * i + 2];
-        if !passes(table, i - 1, KEY_WORDS, first, second, third, false) {
+        if !comes_before(table, i - 1, KEY_WORDS, first, second, third) {
             return false;
         }
         i += 1;
@@ -88,13 +88,13 @@ fn check_missing(aevt: &[u64], avet: &[u64], eavt: &[u64]) -> Verdict
     Verdict::Fine
 }
 
-// Whether a row of these words is in the table.
-pub fn is_row(table: &[u64], first: u64, second: u64, third: u64) -> bool
+// Whether a row of these words is in the table: of an ascending one, it is where the first that does not come before it stands.
+fn is_row(table: &[u64], first: u64, second: u64, third: u64) -> bool
     ensures { λ r. ⌜ (ascending (rowsOf (now (table .entry))) ≡ true → r ≡ isAmong (first ∷ second ∷ third ∷ []) (rowsOf (now (table .entry)))) ⌝ }
 {
-    let i = bound(table, 0, KEY_WORDS, first, second, third, false);
+    let i = first_row(table, KEY_WORDS, first, second, third);
     if i < table.len() / WORDS {
-        passes(table, i, KEY_WORDS, first, second, third, true)
+        begins_with(table, i, KEY_WORDS, first, second, third)
     } else {
         false
     }
@@ -112,37 +112,21 @@ pub fn range<'a>(
 ) -> &'a [u64]
     ensures { λ r. ⌜ Range (now (table .entry)) (key inputs first second third) (now r) (now (begin .exit)) ⌝ }
 {
-    let from = bound(table, 0, inputs, first, second, third, false);
-    let to = bound(table, from, inputs, first, second, third, true);
+    let from = first_row(table, inputs, first, second, third);
+    let to = past_rows(table, from, inputs, first, second, third);
     *begin = from;
     &table[WORDS * from..WORDS * to]
 }
 
-// By halves: the first row from `from` on that does not come before the key, or, with `past`, that comes after all rows that begin
-// with it.
-fn bound(
-    table: &[u64],
-    from: usize,
-    inputs: usize,
-    first: u64,
-    second: u64,
-    third: u64,
-    past: bool,
-) -> usize
-    ensures { λ r. ⌜ Bound (now (table .entry)) from (key inputs first second third) past r ⌝ }
+// The first row that does not come before the key, by halves.
+fn first_row(table: &[u64], inputs: usize, first: u64, second: u64, third: u64) -> usize
+    ensures { λ r. ⌜ FirstRow (now (table .entry)) (key inputs first second third) r ⌝ }
 {
-    let mut low = from;
+    let mut low = 0;
     let mut high = table.len() / WORDS;
-    if high <= low {
-        return from;
-    }
-    // Often no row begins with the key: then the end of its rows is where they would begin.
-    if past && !passes(table, low, inputs, first, second, third, past) {
-        return from;
-    }
     while low < high {
         let middle = low + (high - low) / 2;
-        if passes(table, middle, inputs, first, second, third, past) {
+        if comes_before(table, middle, inputs, first, second, third) {
             low = middle + 1;
         } else {
             high = middle;
@@ -151,39 +135,82 @@ fn bound(
     low
 }
 
-// Whether row i comes before the key or, with `past`, begins with it. There is no largest key: 2^64 - 1 is a word like others.
-fn passes(
+// Past the rows that begin with the key, which stand from `from` on, by halves.
+fn past_rows(
     table: &[u64],
-    i: usize,
+    from: usize,
     inputs: usize,
     first: u64,
     second: u64,
     third: u64,
-    past: bool,
-) -> bool
+) -> usize
+    requires { ⌜ FirstRow (now table) (key inputs first second third) from ⌝ }
+    ensures { λ r. ⌜ PastRows (now (table .entry)) (key inputs first second third) from r ⌝ }
+{
+    let mut low = from;
+    let mut high = table.len() / WORDS;
+    if high <= low {
+        return from;
+    }
+    // Often no row begins with the key: then the end of its rows is where they would begin.
+    if !begins_with(table, low, inputs, first, second, third) {
+        return from;
+    }
+    while low < high {
+        let middle = low + (high - low) / 2;
+        if begins_with(table, middle, inputs, first, second, third) {
+            low = middle + 1;
+        } else {
+            high = middle;
+        }
+    }
+    low
+}
+
+// Whether row i comes before the key. There is no largest key: 2^64 - 1 is a word like others.
+fn comes_before(table: &[u64], i: usize, inputs: usize, first: u64, second: u64, third: u64) -> bool
     requires { ⌜ i < count (now table) ⌝ }
-    ensures { λ r. ⌜ r ≡ passes past (row (now (table .entry)) i) (key inputs first second third) ⌝ }
+    ensures { λ r. ⌜ r ≡ before (row (now (table .entry)) i) (key inputs first second third) ⌝ }
 {
     if inputs == 0 {
-        return past;
+        return false;
     }
     let word = table[WORDS * i];
     if word != first {
         return word < first;
     }
     if inputs == 1 {
-        return past;
+        return false;
     }
     let word = table[WORDS * i + 1];
     if word != second {
         return word < second;
     }
     if inputs == 2 {
-        return past;
+        return false;
     }
-    let word = table[WORDS * i + 2];
-    if word != third {
-        return word < third;
+    table[WORDS * i + 2] < third
+}
+
+// Whether row i begins with the key.
+fn begins_with(table: &[u64], i: usize, inputs: usize, first: u64, second: u64, third: u64) -> bool
+    requires { ⌜ i < count (now table) ⌝ }
+    ensures { λ r. ⌜ r ≡ begins (row (now (table .entry)) i) (key inputs first second third) ⌝ }
+{
+    if inputs == 0 {
+        return true;
     }
-    past
+    if table[WORDS * i] != first {
+        return false;
+    }
+    if inputs == 1 {
+        return true;
+    }
+    if table[WORDS * i + 1] != second {
+        return false;
+    }
+    if inputs == 2 {
+        return true;
+    }
+    table[WORDS * i + 2] == third
 }

@@ -251,7 +251,10 @@ fn read_statement(words: &[u64; QUERY_WORDS], i: usize) -> Statement
     Statement {
         entity: Var(short(words[at])),
         attribute: Aid(words[at + STATEMENT_ATTRIBUTE]),
-        value: value_of(words[at + STATEMENT_IS_CONSTANT], words[at + STATEMENT_VALUE]),
+        value: value_of(
+            words[at + STATEMENT_IS_CONSTANT],
+            words[at + STATEMENT_VALUE],
+        ),
     }
 }
 

@@ -8,7 +8,7 @@ use native.Mathlib.Nat.{sub-zero}
 use borrow.Author.Tests.{not-true, not-false}
 use Rattle.lists.specs.Span.{span}
 use Rattle.tables.specs.Rows.{count, row, rowsOf, before, ascending}
-use Rattle.tables.proofs.Table.{passes-row, ascending-step, ascending-end}
+use Rattle.tables.proofs.Table.{before-row, ascending-step, ascending-end}
 use Rattle.tables.proofs.is_ascending.Statement.{statement}
 use Rattle.tables.proofs.is_ascending.Tie as tie
 
@@ -19,22 +19,22 @@ abbrev μ : tie.MeasureT-loop
 μ t n i₀ i = n - i
 
 -- what the comparison of row i with the one before it found
-seen : (c : tie.After-passes Inv μ) →
+seen : (c : tie.After-comes-before Inv μ) →
     let l = c .before .before .before .before in
     let t = l .before .before .before .args .table .now in
-    let i = l .before .loop .i in before (row t (i - 1)) (row t i) ≡ c .passes .result
+    let i = l .before .loop .i in before (row t (i - 1)) (row t i) ≡ c .comes-before .result
 seen c =
     let l = c .before .before .before .before in
     let t = l .before .before .before .args .table .now in
     let i = l .before .loop .i in
-    sym (c .passes .ensures ∙ passes-row t i (omega arith) (row t (i - 1)))
+    sym (c .comes-before .ensures ∙ before-row t i (omega arith) (row t (i - 1)))
 
 -- it decides, and then the rows from i on
-turn : (c : tie.After-passes Inv μ) →
+turn : (c : tie.After-comes-before Inv μ) →
     let l = c .before .before .before .before in
     let t = l .before .before .before .args .table .now in
     let i = l .before .loop .i in
-    ascending (rowsOf t) ≡ (c .passes .result && ascending (map (row t) (span i (count t - i))))
+    ascending (rowsOf t) ≡ (c .comes-before .result && ascending (map (row t) (span i (count t - i))))
 turn c =
     let l = c .before .before .before .before in
     let t = l .before .before .before .args .table .now in
@@ -51,7 +51,7 @@ again : tie.Need-loop-again Inv μ
 again c =
     let i = c .before .before .before .before .before .before .loop .i in
     let e : i + 1 - 1 ≡ i = omega arith in
-    (refl, omega arith, rw e (rw (not-false (c .before .passes .result) (c .if1 .left)) at (turn (c .before))))
+    (refl, omega arith, rw e (rw (not-false (c .before .comes-before .result) (c .if1 .left)) at (turn (c .before))))
 
 pub is-ascending-spec : {M : Type 1} → statement M
 is-ascending-spec =
@@ -73,7 +73,7 @@ is-ascending-spec =
     (λ c. omega arith)
     (λ c. omega arith)
     (λ c κs. omega arith)
-    (λ c. sym (rw (not-true (c .before .passes .result) (c .if1 .taken)) at (turn (c .before))))
+    (λ c. sym (rw (not-true (c .before .comes-before .result) (c .if1 .taken)) at (turn (c .before))))
     (λ c. omega arith)
     (λ c. omega arith)
     again

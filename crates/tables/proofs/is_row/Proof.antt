@@ -1,4 +1,4 @@
--- `is_row` meets its contract: the row at the key's bound decides.
+-- `is_row` meets its contract: the first row that does not come before the words decides.
 use mathlib.Core.Path.{refl, _∙_}
 use borrow.Author.Needs.{needs}
 use Rattle.tables.proofs.Among.{among-bound, among-past}
@@ -11,5 +11,5 @@ is-row-spec =
     (tie.spec
     (λ c κs. search needs)
     (λ c κs. search needs)
-    (λ c asc. c .passes .ensures ∙ among-bound _ _ _ refl (c .before .before .bound .ensures) asc (c .before .if1 .taken))
-    (λ c asc. among-past _ _ _ refl (c .before .bound .ensures) asc (c .if1 .left)))
+    (λ c asc. c .begins-with .ensures ∙ among-bound _ _ _ refl (c .before .before .first-row .ensures) asc (c .before .if1 .taken))
+    (λ c asc. among-past _ _ _ refl (c .before .first-row .ensures) asc (c .if1 .left)))

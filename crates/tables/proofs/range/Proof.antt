@@ -16,4 +16,4 @@ range-spec =
     (λ c. search needs)
     (λ c. search needs)
     (λ c. search needs)
-    (λ c. range-found _ _ _ _ (c .before .before .bound .ensures) (c .before .bound2 .ensures)))
+    (λ c. range-found _ _ _ _ (c .before .before .first-row .ensures) (c .before .past-rows .ensures)))
