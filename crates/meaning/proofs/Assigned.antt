@@ -22,7 +22,7 @@ use Rattle.planned.proofs.Written.{written-named}
 use Rattle.listing.proofs.SameAccesses.{SameScans, same-written}
 use Rattle.tables.specs.Passed.{Passed}
 use Rattle.visits.specs.Visits.{Tables, valueOf}
-use Rattle.meaning.specs.Meaning.{areFacts}
+use Rattle.meaning.specs.Demand.{areFacts}
 use Rattle.meaning.proofs.Counted.{image-of, times-image}
 use Rattle.meaning.proofs.Reached.{finals, Fitting, Stays, reached-only, reached-once}
 use Rattle.meaning.proofs.Stated.{constantsOf, scans-stated}

@@ -27,7 +27,7 @@ use Rattle.visits.specs.Visits.{Tables, tableOf, rowFor, inputs, wanted, visite
 use Rattle.visits.specs.Sound.{Steady, Agree}
 use Rattle.visits.proofs.Slots.{key-agree, standing-length, standing-agree, standing-back}
 use Rattle.visits.proofs.Steady.{Last}
-use Rattle.meaning.specs.Meaning.{isFact}
+use Rattle.meaning.specs.Demand.{isFact}
 use Rattle.meaning.proofs.Row.{row-back, begins-own, in-order, stands-wanted, stands-still}
 use Rattle.meaning.proofs.Counted.{times-each, sum-one, sum-some}
 
