@@ -17,7 +17,7 @@ use Rattle.lists.specs.Span.{span}
 use Rattle.tables.specs.Rows.{row, before, ascending, begins, keep, matching}
 use Rattle.tables.specs.Check.{sameRow, isAmong, missingFault, tablesFault}
 use Rattle.visits.specs.Visits.{Tables, visited, standing, each, visits, slotsAt, rowList}
-use Rattle.meaning.specs.Demand.{Meaning}
+use Rattle.meaning.specs.Demand.{Meaning, initial-plan}
 use Rattle.meaning.proofs.SameRows.{same-rows}
 use Rattle.meaning.proofs.Shown.{fine-same}
 use Rattle.meaning.proofs.Entries.{plan-shown}
@@ -30,7 +30,7 @@ accepted = refl
 
 -- its plan's rows mean it, over any tables that pass their check
 e-means : (ts : Tables) → tablesFault (ts .aevt) (ts .avet) (ts .eavt) ≡ Fine → Meaning ts e (rowList (planOf e .plan) ts)
-e-means ts fine = plan-shown e (padded-length _ maxStatements _) (padded-length _ maxSelects _) ts (fine-same ts fine) accepted .meaning
+e-means ts fine = plan-shown e (padded-length _ maxStatements _) (padded-length _ maxSelects _) accepted initial-plan ts (fine-same ts fine) .meaning
 
 triples-pass : tablesFault (triples .aevt) (triples .avet) (triples .eavt) ≡ Fine
 unfolding tablesFault missingFault isAmong sameRow ascending before row span

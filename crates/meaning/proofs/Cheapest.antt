@@ -18,14 +18,13 @@ use Rattle.plan.specs.declared.Plan.{Plan}
 use Rattle.planner.specs.Planning.{planOf}
 use Rattle.listing.specs.Next.{withScans}
 use Rattle.search.specs.declared.Found.{Found}
-use Rattle.search.specs.Search.{Candidate, orders, arranged, isSound, weighed, candidatesOf, leastFrom, foundAs, notFound, firstLeast, searchOf}
+use Rattle.search.specs.Search.{Candidate, orders, arranged, arrangedQuery, isSound, weighed, candidatesOf, leastFrom, foundAs, notFound, firstLeast, searchOf}
 use Rattle.search.specs.FirstLeast.{FirstLeast}
-use Rattle.search.specs.Best.{arrangedQuery}
 use Rattle.search.proofs.Answer.{search-first}
 use Rattle.search.proofs.First.{least-first}
 use Rattle.search.proofs.Weighed.{only-orders}
 use Rattle.search.proofs.Cheapest.{refuses-unsound, unsound-refused}
-use Rattle.meaning.specs.Demand.{SoundOrder, PlanOf, weighedIn, Weighs, orderAt, FirstOfLeast, Searches}
+use Rattle.meaning.specs.Demand.{SoundOrder, PlanIn, weighedIn, Weighs, orderAt, FirstOfLeast, Searches}
 use Rattle.meaning.proofs.Sound.{sound-without}
 use Rattle.meaning.proofs.Places.{member-at, at-member, same-default, place, place-at, place-of, place-steps, place-orders, some-sound, candidates-long, candidate-at}
 use Rattle.meaning.proofs.Weighs.{scansIn, scansAt, plan-number, number-plan, found-plan, plan-costs, plan-weighed, weighed-plan}
@@ -44,7 +43,7 @@ module _ (q : Query) (clear : Clear q) (few : q .«where_statements» .count ≤
   fits = omega (arith, few)
 
   -- plan number t of order number r stands at its place among those weighed
-  weighed-at : {r t : ℕ} {p : Plan} → r < length all → PlanOf q (orderAt q r) t p
+  weighed-at : {r t : ℕ} {p : Plan} → r < length all → PlanIn q (orderAt q r) t p
       → (t < length (candidatesOf n ss (orderAt q r))) × (getD (weighedIn q) (place n ss all r t) (weighed (orderAt q r) []) ≡ weighed (orderAt q r) (scansAt q clear (orderAt q r) t))
   weighed-at {r} {t} h w =
       let o = orderAt q r in
@@ -76,7 +75,7 @@ module _ (q : Query) (clear : Clear q) (few : q .«where_statements» .count ≤
           none-twice = sound-without (arranged ss order) .0 (some-sound n ss order steps (at-place .3));
         }
 
-    plan : PlanOf q order steps (withScans (planOf (arrangedQuery q order) .plan) scans)
+    plan : PlanIn q order steps (withScans (planOf (arrangedQuery q order) .plan) scans)
     plan =
         let s = sound-without (arranged ss order) .1 (sound .none-twice) in
         number-plan q clear order sound steps (rw (candidates-long n ss order s) at (at-place .3))

@@ -4,7 +4,7 @@ use Rattle.meaning.specs.Demand.{RowsDemanded, SearchDemanded}
 use Rattle.meaning.proofs.Shown.{reached-shown}
 use Rattle.meaning.proofs.Ordered.{ordered-clear, ordered-accepted, ordered-shown}
 use Rattle.meaning.proofs.Cheapest.{searches}
-use Rattle.search.specs.Best.{arrangedQuery}
+use Rattle.search.specs.Search.{arrangedQuery}
 
 pub rows-demanded : (q : Query) → RowsDemanded q
 rows-demanded q clear o t p plan ts tables =

@@ -19,8 +19,7 @@ use Rattle.query_check.specs.Clear.{Clear}
 use Rattle.plan.specs.declared.Plan.{Plan}
 use Rattle.planner.specs.Planning.{planOf}
 use Rattle.planned.proofs.Passes.{plan-verdict}
-use Rattle.search.specs.Search.{arranged}
-use Rattle.search.specs.Best.{arrangedQuery}
+use Rattle.search.specs.Search.{arranged, arrangedQuery}
 use Rattle.search.proofs.Arranged.{many, many-order}
 use Rattle.search.proofs.Fresh.{statements-ordered, arranged-statements, arranged-fine, arranged-fault}
 use Rattle.visits.specs.Visits.{Tables, rowList}

@@ -24,12 +24,11 @@ use Rattle.listing.specs.Listing.{combinations}
 use Rattle.listing.proofs.SameAccesses.{SameScans}
 use Rattle.listing.proofs.Passes.{same-accesses, same-count}
 use Rattle.listing.proofs.NextLists.{same-flows}
-use Rattle.search.specs.Search.{Candidate, arranged, weighed, foundAs}
-use Rattle.search.specs.Best.{arrangedQuery}
+use Rattle.search.specs.Search.{Candidate, arranged, arrangedQuery, weighed, foundAs}
 use Rattle.search.proofs.Bounded.{fault-fine}
 use Rattle.search.proofs.Fresh.{fresh-plan}
 use Rattle.search.proofs.Cheapest.{weighs-every, weighs-only}
-use Rattle.meaning.specs.Demand.{SoundOrder, Reached, PlanOf, weighedIn, Weighs}
+use Rattle.meaning.specs.Demand.{SoundOrder, Reached, PlanIn, weighedIn, Weighs}
 use Rattle.meaning.proofs.Sound.{sound-without}
 use Rattle.meaning.proofs.Places.{member-at, at-member, same-default}
 use Rattle.meaning.proofs.Listed.{listed-reached, reached-listed}
@@ -74,7 +73,7 @@ module _ (q : Query) (clear : Clear q) where
     plan-number r =
         rw first-scans at (reached-listed first (first-fits turned turned-clear accepted) (first-flows turned turned-clear accepted) (first-initial turned turned-clear accepted) r)
 
-    pub number-plan : (t : ℕ) → t < length (scansIn o) → PlanOf q o t (withScans first (scansAt o t))
+    pub number-plan : (t : ℕ) → t < length (scansIn o) → PlanIn q o t (withScans first (scansAt o t))
     number-plan t h = record {
       sound = sound;
       reached =
@@ -104,7 +103,7 @@ module _ (q : Query) (clear : Clear q) where
           rw (counts, listed-scans turned turned-clear accepted l same, same-flows same 0, fault-fine [] l 0 short) refl
 
   module _ (few : q .«where_statements» .count ≤ maxSearched) where
-    pub plan-weighed : {o : List ℕ} {t : ℕ} {p : Plan} → PlanOf q o t p → Weighs q o p (weighed o (scansAt o t))
+    pub plan-weighed : {o : List ℕ} {t : ℕ} {p : Plan} → PlanIn q o t p → Weighs q o p (weighed o (scansAt o t))
     plan-weighed {o} {t} {p} w =
         let m = plan-number o (w .sound) (w .reached) in
         let l = scansAt o t in
@@ -117,7 +116,7 @@ module _ (q : Query) (clear : Clear q) where
           cost-is = rw (m .1) (plan-costs o (w .sound) few t (m .0));
         }
 
-    pub weighed-plan : (c : Candidate) → List·Memᴰ c (weighedIn q) → (o : List ℕ) × (t : ℕ) × (p : Plan) × PlanOf q o t p × Weighs q o p c
+    pub weighed-plan : (c : Candidate) → List·Memᴰ c (weighedIn q) → (o : List ℕ) × (t : ℕ) × (p : Plan) × PlanIn q o t p × Weighs q o p c
     weighed-plan c m =
         let w = weighs-only q (clear .fine) few c m in
         let o = w .0 in

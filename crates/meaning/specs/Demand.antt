@@ -1,6 +1,6 @@
 -- Demand 3: the row list is exactly the assignments that make every statement a fact, each once, seen through the select list (`RowsDemanded`);
--- the search weighs every plan of every sound order and picks the first of least cost (`SearchDemanded`). Whatever is named here and defined
--- elsewhere is what the contracts of `plan`, `next`, `evaluate`, `cost` and `search` cite.
+-- the search weighs every plan of every sound order and picks the first of least cost (`SearchDemanded`). Plans, rows and costs are those
+-- of demand 2: `planOf`, `nextOf`, `evaluateOf`, `bufferAfter`, `costOf` and `searchOf` are what the contracts say that the functions answer.
 use mathlib.Core.Path.{_≡_}
 use mathlib.Core.Logic.{_⊎_, _↔_}
 use mathlib.Core.Bool.{Bool, true, false, _&&_}
@@ -26,8 +26,7 @@ use Rattle.cost.specs.Cost.{costOf}
 use Rattle.planner.specs.Planning.{planOf}
 use Rattle.listing.specs.Next.{nextOf}
 use Rattle.search.specs.declared.Found.{Found}
-use Rattle.search.specs.Search.{Candidate, orders, arranged, candidates, foundAs, notFound, searchOf}
-use Rattle.search.specs.Best.{arrangedQuery}
+use Rattle.search.specs.Search.{Candidate, orders, arranged, arrangedQuery, candidates, foundAs, notFound, searchOf}
 use Rattle.tables.specs.Rows.{rowsOf}
 use Rattle.tables.specs.Check.{isAmong}
 use Rattle.tables.specs.Passed.{Sorted}
@@ -81,8 +80,8 @@ pub record Meaning (ts : Tables) (q : Query) (rows : List (List ℕ)) : Type 0 w
   pub answers : Answers ts q assignments
   pub rows-are : rows ≡ map (through (selectsOf q)) assignments
 
--- a plan's row list means a query; and a call of `evaluate`, from any row k and into any buffer, answers and leaves the buffer as one does that
--- shows its window of those assignments, seen through the select list
+-- a plan's row list means a query; and every call of `evaluate`, from any row k on and into any buffer, shows its window of that list of
+-- assignments seen through the select list: so it answers, and so it leaves the buffer
 pub record Shown (ts : Tables) (q : Query) (p : Plan) : Type 0 where
   pub meaning : Meaning ts q (rowList p ts)
   pub answer : (k : ℕ) (buffer : List ℕ)
@@ -102,26 +101,26 @@ pub record SoundOrder (q : Query) (o : List ℕ) : Type 0 where
   pub order : OrderOf (upTo (q .«where_statements» .count)) o
   pub none-twice : (i : ℕ) → NewTwice (arranged (statementsOf q) o) i → ⊥
 
--- the plans listed are the initial one and each reached by a yes of `next`; number t is reached by t of them
+-- the plans listed are the initial one and each reached by a yes of `next`; number t by t of them
 pub data Reached (p : Plan) : ℕ → Plan → Type 0 where
   initial-plan : Reached p 0 p
   by-yes : {t : ℕ} {r : Plan} → Reached p t r → nextOf r .«is_new» ≡ true → Reached p (suc t) (nextOf r .plan)
 
--- plan number t of a sound order: the initial plan is what `plan` answers of the query with its statements in that order
-pub record PlanOf (q : Query) (o : List ℕ) (t : ℕ) (p : Plan) : Type 0 where
+-- plan number t of a sound order. The initial one is what `plan` answers for the query with its statements in that order
+pub record PlanIn (q : Query) (o : List ℕ) (t : ℕ) (p : Plan) : Type 0 where
   pub sound : SoundOrder q o
   pub reached : Reached (planOf (arrangedQuery q o) .plan) t p
 
--- THE ROWS: of a query clear of 10 to 15, every plan of every sound order, over any three ascending tables of the same triples, shows the
+-- The rows: for a query clear of 10 to 15, every plan of every sound order shows, over any three ascending tables of the same triples, the
 -- assignments that make every statement a fact, each once, seen through the select list
 abbrev pub RowsDemanded : Query → Type 0
-RowsDemanded q = Clear q → (o : List ℕ) (t : ℕ) (p : Plan) → PlanOf q o t p → (ts : Tables) → SameTriples ts → Shown ts q p
+RowsDemanded q = Clear q → (o : List ℕ) (t : ℕ) (p : Plan) → PlanIn q o t p → (ts : Tables) → SameTriples ts → Shown ts q p
 
--- what the search weighs, in turn: of each order, as the swaps give them, the plans as listed
+-- what the search weighs: orders as the swaps give them, each order's plans as listed
 abbrev pub weighedIn : Query → List Candidate
 weighedIn q = candidates (q .«variable_count») (statementsOf q) (orders (q .«where_statements» .count))
 
--- it weighs a plan of an order, and the weight is what `cost` answers
+-- it weighs a plan of an order, by the cost that `cost` answers
 pub record Weighs (q : Query) (o : List ℕ) (p : Plan) (c : Candidate) : Type 0 where
   pub weighed : List·Memᴰ c (weighedIn q)
   pub order-is : c .order ≡ o
@@ -132,28 +131,28 @@ pub record Weighs (q : Query) (o : List ℕ) (p : Plan) (c : Candidate) : Type 0
 abbrev pub orderAt : Query → ℕ → List ℕ
 orderAt q r = getD (orders (q .«where_statements» .count)) r []
 
--- the first of least cost: plan number `steps` of order number `number`, which costs no more than any plan of any sound order, and less than
--- each of an earlier order and each earlier one of its own
+-- the first of least cost: plan number `steps` of order number `number`. It costs no more than any plan of any sound order, and less than each
+-- plan of an earlier order and each earlier plan of its own. With it go its order, zeros past the last, and its cost
 pub record FirstOfLeast (q : Query) (f : Found) : Type 0 where
   pub number : ℕ
   pub steps : ℕ
   pub within : number < length (orders (q .«where_statements» .count))
   pub fine : f .verdict ≡ Fine
   pub order-is : f .order ≡ padded 0 maxSearched (orderAt q number)
-  pub plan-is : PlanOf q (orderAt q number) steps (f .plan)
+  pub plan-is : PlanIn q (orderAt q number) steps (f .plan)
   pub cost-is : costOf (f .plan) ≡ record { verdict = Fine; cost = f .cost }
-  pub least : (o : List ℕ) (t : ℕ) (p : Plan) → PlanOf q o t p → f .cost ≤ costOf p .cost
-  pub first : (r t : ℕ) (p : Plan) → (r < number) ⊎ ((r ≡ number) × (t < steps)) → PlanOf q (orderAt q r) t p → f .cost < costOf p .cost
+  pub least : (o : List ℕ) (t : ℕ) (p : Plan) → PlanIn q o t p → f .cost ≤ costOf p .cost
+  pub first : (r t : ℕ) (p : Plan) → (r < number) ⊎ ((r ≡ number) × (t < steps)) → PlanIn q (orderAt q r) t p → f .cost < costOf p .cost
 
--- every order stands once among those that the swaps give; every plan of every sound order is weighed, and nothing else; the answer is the first
--- of least cost, or 18 and zeros, and that exactly if no order is sound
+-- the swaps give every order once; every plan of every sound order is weighed, and nothing else; the answer is the first of least cost, or 18
+-- with zeros, and that exactly if no order is sound
 pub record Searches (q : Query) : Type 0 where
   pub orders-once : (o : List ℕ) → OrderOf (upTo (q .«where_statements» .count)) o → timesIn o (orders (q .«where_statements» .count)) ≡ 1
-  pub every : (o : List ℕ) (t : ℕ) (p : Plan) → PlanOf q o t p → (c : Candidate) × Weighs q o p c
-  pub only : (c : Candidate) → List·Memᴰ c (weighedIn q) → (o : List ℕ) × (t : ℕ) × (p : Plan) × PlanOf q o t p × Weighs q o p c
+  pub every : (o : List ℕ) (t : ℕ) (p : Plan) → PlanIn q o t p → (c : Candidate) × Weighs q o p c
+  pub only : (c : Candidate) → List·Memᴰ c (weighedIn q) → (o : List ℕ) × (t : ℕ) × (p : Plan) × PlanIn q o t p × Weighs q o p c
   pub answer : FirstOfLeast q (searchOf q) ⊎ (searchOf q ≡ notFound (refused 18 0))
   pub no-order : (searchOf q ≡ notFound (refused 18 0)) ↔ ((o : List ℕ) → SoundOrder q o → ⊥)
 
--- THE SEARCH: so it is of a query clear of 10 to 15 and of 17
+-- The search: for a query clear of 10 to 15, and of 17
 abbrev pub SearchDemanded : Query → Type 0
 SearchDemanded q = Clear q → q .«where_statements» .count ≤ maxSearched → Searches q
