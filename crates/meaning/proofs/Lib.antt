@@ -1,6 +1,6 @@
 pub mod Row
 pub mod Counted
-pub mod Reached
+pub mod Finals
 pub mod Stated
 pub mod Assigned
 pub mod Parts
