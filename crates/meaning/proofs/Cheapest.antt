@@ -24,10 +24,10 @@ use Rattle.search.proofs.Answer.{search-first}
 use Rattle.search.proofs.First.{least-first}
 use Rattle.search.proofs.Weighed.{only-orders}
 use Rattle.search.proofs.Cheapest.{refuses-unsound, unsound-refused}
-use Rattle.meaning.specs.Demand.{SoundOrder, PlanIn, weighedIn, Weighs, orderAt, FirstOfLeast, Searches}
+use Rattle.meaning.specs.Demand.{SoundOrder, PlanIn, weighedIn, orderAt, FirstOfLeast, Searches}
 use Rattle.meaning.proofs.Sound.{sound-without}
 use Rattle.meaning.proofs.Places.{member-at, at-member, same-default, place, place-at, place-of, place-steps, place-orders, some-sound, candidates-long, candidate-at}
-use Rattle.meaning.proofs.Weighs.{scansIn, scansAt, plan-number, number-plan, found-plan, plan-costs, plan-weighed, weighed-plan}
+use Rattle.meaning.proofs.Weighs.{scansAt, plan-number, number-plan, found-plan, plan-weighed, weighed-plan}
 
 module _ (q : Query) (clear : Clear q) (few : q .«where_statements» .count ≤ maxSearched) where
   abbrev n : ℕ

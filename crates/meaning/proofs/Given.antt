@@ -61,7 +61,7 @@ variables-begun : (n : ℕ) → map (λ (s : SlotRecord). valueOf (s .definition
 variables-begun zero = refl
 variables-begun (suc n) = ap (λ (l : List ℕ). 0 ∷ l) (variables-begun n)
 
-module _ (q : Query) (clear : Clear q) (accepted : planOf q .verdict ≡ Fine) (l : List Scan) (same : SameScans (scansOf (planOf q .plan)) l) where
+module _ (q : Query) (clear : Clear q) (accepted : planOf q .verdict ≡ Fine) where
   abbrev n : ℕ
   n = q .«variable_count»
 
@@ -70,9 +70,6 @@ module _ (q : Query) (clear : Clear q) (accepted : planOf q .verdict ≡ Fine) (
 
   abbrev first : Plan
   first = planOf q .plan
-
-  abbrev listedPlan : Plan
-  listedPlan = withScans first l
 
   fits : Fits n (q .«where_statements» .count) ss (q .select .count)
   fits = query-fits q (clear .fine)
@@ -95,61 +92,66 @@ module _ (q : Query) (clear : Clear q) (accepted : planOf q .verdict ≡ Fine) (
       let z = clear .selects-sized in
       rw there (planned-selects n (q .«where_statements» .count) ss (q .select .count) (selectsOf q) (length-take-le _ _ (omega arith)) (f .few-selects))
 
-  first-fits : first .«scan_count» ≤ length (first .scans)
+  pub first-fits : first .«scan_count» ≤ length (first .scans)
   first-fits = plan-fits q (clear .statements-sized) (clear .selects-sized) accepted
-
-  pub listed-scans : scansOf listedPlan ≡ l
-  listed-scans = same-scans first l first-fits same
-
-  pub listed-checked : checkOf listedPlan ≡ Fine
-  listed-checked = same-passes first l first-fits same (plan-passes q (clear .statements-sized) (clear .selects-sized) accepted)
-
-  listed-promised : Promised listedPlan
-  listed-promised = promises listedPlan listed-checked
-
-  begun-is : initialSlots listedPlan ≡ begun n ss
-  begun-is =
-      ap (map (λ (s : SlotRecord). valueOf (s .definition))) first-slots ∙
-      map-append (λ (s : SlotRecord). valueOf (s .definition)) (replicate n variableSlot) (slotsOfConstants ss) ∙
-      ap (λ (z : List ℕ). z ++ constantsOf ss) (variables-begun n)
-
-  answering : Answering n ss l
-  answering =
-      let b = parts q (clear .fine) in
-      let size : length (slotsOf listedPlan) ≡ n + constants ss = ap length first-slots ∙ slots-length n ss in
-      record {
-        same = rw first-scans at same;
-        stays =
-            λ i h.
-            let low : i < length (scansOf listedPlan) = rw listed-scans h in
-            (rw (listed-scans, size) at (promised-sound listedPlan listed-promised i low), rw listed-scans at (promised-last listedPlan listed-promised i low));
-        below = statements-below n ss 0 (b .statements-fine);
-        all-named = λ x h. rw zero-add at (all-named ss n 0 (b .used-fine) x h);
-        constants-kept =
-            λ j h.
-            rw listed-scans at (constant-kept listedPlan listed-promised (n + j) (rw first-slots (constant-set n ss [] (n + j) (omega arith) (omega arith))));
-      }
 
   selects-low : (j : ℕ) (d : Var) → j < length (selectsOf q) → getD (selectsOf q) j d .0 < n
   selects-low = selects-below n (selectsOf q) (q .«where_statements» .count) (parts q (clear .fine) .selects-fine)
 
-  module _ (ts : Tables) (passed : Passed (ts .aevt) (ts .avet) (ts .eavt)) where
-    given-rows : rowList listedPlan ts ≡ map (through (selectsOf q)) (assigned ts passed n ss l answering)
-    unfolding rowList
-    given-rows =
-        rw (listed-scans, begun-is, first-selects)
-        (map-through n (selectsOf q) selects-low (slotsAt ts l (begun n ss)) (visits ts l (begun n ss)))
+  -- a plan of other scans of the same cycles
+  module _ (l : List Scan) (same : SameScans (scansOf first) l) where
+    abbrev listedPlan : Plan
+    listedPlan = withScans first l
 
-    pub given-meaning : Meaning ts q (rowList listedPlan ts)
-    given-meaning = record {
-      assignments = assigned ts passed n ss l answering;
-      answers = record {
-        none-twice = assigned-once ts passed n ss l answering;
-        every = λ a m. omega (arith, assigned-every ts passed n ss l answering a (m .one-per-variable) (m .all-facts));
-        only =
-            λ a h.
-            let w = assigned-only ts passed n ss l answering a h in
-            record { one-per-variable = w .0; all-facts = w .1 };
-      };
-      rows-are = given-rows;
-    }
+    pub listed-scans : scansOf listedPlan ≡ l
+    listed-scans = same-scans first l first-fits same
+
+    pub listed-checked : checkOf listedPlan ≡ Fine
+    listed-checked = same-passes first l first-fits same (plan-passes q (clear .statements-sized) (clear .selects-sized) accepted)
+
+    listed-promised : Promised listedPlan
+    listed-promised = promises listedPlan listed-checked
+
+    begun-is : initialSlots listedPlan ≡ begun n ss
+    begun-is =
+        ap (map (λ (s : SlotRecord). valueOf (s .definition))) first-slots ∙
+        map-append (λ (s : SlotRecord). valueOf (s .definition)) (replicate n variableSlot) (slotsOfConstants ss) ∙
+        ap (λ (z : List ℕ). z ++ constantsOf ss) (variables-begun n)
+
+    answering : Answering n ss l
+    answering =
+        let b = parts q (clear .fine) in
+        let size : length (slotsOf listedPlan) ≡ n + constants ss = ap length first-slots ∙ slots-length n ss in
+        record {
+          same = rw first-scans at same;
+          stays =
+              λ i h.
+              let low : i < length (scansOf listedPlan) = rw listed-scans h in
+              (rw (listed-scans, size) at (promised-sound listedPlan listed-promised i low), rw listed-scans at (promised-last listedPlan listed-promised i low));
+          below = statements-below n ss 0 (b .statements-fine);
+          all-named = λ x h. rw zero-add at (all-named ss n 0 (b .used-fine) x h);
+          constants-kept =
+              λ j h.
+              rw listed-scans at (constant-kept listedPlan listed-promised (n + j) (rw first-slots (constant-set n ss [] (n + j) (omega arith) (omega arith))));
+        }
+
+    module _ (ts : Tables) (passed : Passed (ts .aevt) (ts .avet) (ts .eavt)) where
+      given-rows : rowList listedPlan ts ≡ map (through (selectsOf q)) (assigned ts passed n ss l answering)
+      unfolding rowList
+      given-rows =
+          rw (listed-scans, begun-is, first-selects)
+          (map-through n (selectsOf q) selects-low (slotsAt ts l (begun n ss)) (visits ts l (begun n ss)))
+
+      pub given-meaning : Meaning ts q (rowList listedPlan ts)
+      given-meaning = record {
+        assignments = assigned ts passed n ss l answering;
+        answers = record {
+          none-twice = assigned-once ts passed n ss l answering;
+          every = λ a m. omega (arith, assigned-every ts passed n ss l answering a (m .one-per-variable) (m .all-facts));
+          only =
+              λ a h.
+              let w = assigned-only ts passed n ss l answering a h in
+              record { one-per-variable = w .0; all-facts = w .1 };
+        };
+        rows-are = given-rows;
+      }

@@ -23,7 +23,7 @@ use Rattle.search.specs.Search.{arranged, arrangedQuery}
 use Rattle.search.proofs.Arranged.{many, many-order}
 use Rattle.search.proofs.Fresh.{statements-ordered, arranged-statements, arranged-fine, arranged-fault}
 use Rattle.visits.specs.Visits.{Tables, rowList}
-use Rattle.meaning.specs.Demand.{isFact, stated, areFacts, Makes, Meaning, Shown, SoundOrder}
+use Rattle.meaning.specs.Demand.{isFact, stated, areFacts, Meaning, Shown, SoundOrder}
 use Rattle.meaning.proofs.Sound.{without-fine}
 
 -- the statements are facts if none is not
@@ -49,7 +49,7 @@ module _ (q : Query) (clear : Clear q) (o : List ℕ) (sound : SoundOrder q o) w
   }
 
   -- the same assignments make its statements facts
-  pub ordered-facts : (ts : Tables) (a : List ℕ) → areFacts ts (statementsOf (arrangedQuery q o)) a ≡ areFacts ts (statementsOf q) a
+  ordered-facts : (ts : Tables) (a : List ℕ) → areFacts ts (statementsOf (arrangedQuery q o)) a ≡ areFacts ts (statementsOf q) a
   ordered-facts ts a =
       let f : Statement → Bool = λ s. not (isFact ts (stated a s)) in
       ap (λ (l : List Statement). areFacts ts l a) ordered-statements ∙ facts-none ts (arranged (statementsOf q) o) a ∙

@@ -185,7 +185,7 @@ module _ (q : Query) where
       or-explained planRefusal (queryFault q) _ (⊎-elim inl (λ w. inr (of-query (w .0), w .1)) query-explained)
       (λ _. ⊎-elim inl (λ w. inr (new-twice (w .0 .0) (w .0 .1), w .1)) (bound-explained ss))
 
-  pub plan-sound : planFault q ≡ Fine → PlanReason q → ⊥
+  plan-sound : planFault q ≡ Fine → PlanReason q → ⊥
   unfolding planFault
   plan-sound fine (of-query r) = query-sound (or-fine (queryFault q) _ fine .0) r
   plan-sound fine (new-twice i h) = bound-sound ss (or-fine (queryFault q) _ fine .1) i (h .here)

@@ -1,6 +1,6 @@
 -- Evaluation shows windows of the rows that mean a query, of every plan that `next` reaches from the one that planning makes of it.
 use mathlib.Core.Path.{_≡_, refl, ap, _∙_}
-use Prim.Native.Nat.{ℕ, zero, suc, _+_, _≤_, _<_, suc-le-suc}
+use Prim.Native.Nat.{ℕ, zero, suc, _+_, _<_, suc-le-suc}
 use native.Mathlib.Omega.{arith}
 use mathlib.Core.List.{List, [], _∷_}
 use mathlib.Core.Bool.{true, false, false≢true}
@@ -21,7 +21,7 @@ use Rattle.plan_check.proofs.Promises.{promises}
 use Rattle.planner.specs.Planning.{slotOf, planOf}
 use Rattle.planner.proofs.Accepted.{query-fits}
 use Rattle.planned.proofs.Places.{selects-below, all-named}
-use Rattle.planned.proofs.Passes.{plan-initial, plan-fits, plan-passes}
+use Rattle.planned.proofs.Passes.{plan-initial, plan-passes}
 use Rattle.listing.specs.Next.{withScans}
 use Rattle.listing.specs.Listing.{combinations, Initial}
 use Rattle.listing.proofs.SameAccesses.{SameScans}
@@ -33,7 +33,7 @@ use Rattle.visits.specs.Visits.{Tables}
 use Rattle.eval.specs.Evaluation.{evaluationFault, evaluateOf, bufferAfter}
 use Rattle.meaning.specs.Demand.{SameTriples, Shown, Reached}
 use Rattle.meaning.proofs.Parts.{parts}
-use Rattle.meaning.proofs.Given.{first-count, first-selects, listed-checked, given-meaning}
+use Rattle.meaning.proofs.Given.{first-count, first-selects, first-fits, listed-checked, given-meaning}
 use Rattle.meaning.proofs.Listed.{reached-listed}
 
 -- tables are such exactly if they pass their check
@@ -78,9 +78,6 @@ module _ (q : Query) (clear : Clear q) where
     abbrev first : Plan
     first = planOf q .plan
 
-    pub first-fits : first .«scan_count» ≤ length (first .scans)
-    first-fits = plan-fits q (clear .statements-sized) (clear .selects-sized) accepted
-
     pub first-flows : flowsFault first ≡ Fine
     first-flows = passed-flows first (plan-passes q (clear .statements-sized) (clear .selects-sized) accepted)
 
@@ -92,11 +89,11 @@ module _ (q : Query) (clear : Clear q) where
       not-refused : evaluationFault (withScans first l) ts ≡ Fine
       unfolding evaluationFault
       not-refused =
-          let some : eqb (first .«scan_count») 0 ≡ false = ne-eqb (first .«scan_count») 0 (λ e. omega (arith, some-statement, first-count q clear accepted l same, e)) in
+          let some : eqb (first .«scan_count») 0 ≡ false = ne-eqb (first .«scan_count») 0 (λ e. omega (arith, some-statement, first-count q clear accepted, e)) in
           rw (listed-checked q clear accepted l same, some, tables-fine ts tables) refl
 
       width : length (slotsSelected first) ≡ length (selectsOf q)
-      width = ap length (first-selects q clear accepted l same) ∙ length-map (selectsOf q) slotOf
+      width = ap length (first-selects q clear accepted) ∙ length-map (selectsOf q) slotOf
 
       listed-shown : Shown ts q (withScans first l)
       unfolding evaluateOf bufferAfter
@@ -111,5 +108,5 @@ module _ (q : Query) (clear : Clear q) where
 
     pub reached-shown : {t : ℕ} {p : Plan} → Reached first t p → (ts : Tables) → SameTriples ts → Shown ts q p
     reached-shown {t} {p} r ts tables =
-        let w = reached-listed first first-fits first-flows first-initial r in
+        let w = reached-listed first (first-fits q clear accepted) first-flows first-initial r in
         rw (w .1) (listed-shown (getD (combinations (scansOf first)) t []) (same-accesses (scansOf first) t (w .0)) ts tables)

@@ -26,7 +26,7 @@ use Rattle.meaning.specs.Reasons.{Lowest}
 use Rattle.meaning.proofs.Explained.{Explained, or-explained, if-explained, below-next}
 
 -- 16 at the lowest statement that binds one variable twice
-abbrev pub boundRefusal : (ss : List Statement) → (i : ℕ) × Lowest (NewTwice ss) i → Verdict
+abbrev boundRefusal : (ss : List Statement) → (i : ℕ) × Lowest (NewTwice ss) i → Verdict
 boundRefusal ss w = refused 16 (w .0)
 
 module _ (ss : List Statement) where

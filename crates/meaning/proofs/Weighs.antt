@@ -32,8 +32,8 @@ use Rattle.meaning.specs.Demand.{SoundOrder, Reached, PlanIn, weighedIn,
 use Rattle.meaning.proofs.Sound.{sound-without}
 use Rattle.meaning.proofs.Places.{member-at, at-member, same-default}
 use Rattle.meaning.proofs.Listed.{listed-reached, reached-listed}
-use Rattle.meaning.proofs.Given.{first-count, listed-scans, listed-checked}
-use Rattle.meaning.proofs.Shown.{first-fits, first-flows, first-initial}
+use Rattle.meaning.proofs.Given.{first-count, first-fits, listed-scans, listed-checked}
+use Rattle.meaning.proofs.Shown.{first-flows, first-initial}
 use Rattle.meaning.proofs.Ordered.{ordered-statements, ordered-clear, ordered-accepted}
 
 module _ (q : Query) (clear : Clear q) where
@@ -94,9 +94,9 @@ module _ (q : Query) (clear : Clear q) where
       same = rw first-scans (same-accesses (scansFor [] (arranged ss o) n) t h)
 
       short : length l ≤ maxSearched
-      short = omega (arith, few, same-count first l (first-fits turned turned-clear accepted) same, first-count turned turned-clear accepted l same)
+      short = omega (arith, few, same-count first l (first-fits turned turned-clear accepted) same, first-count turned turned-clear accepted)
 
-      pub plan-costs : costOf (withScans first l) ≡ record { verdict = Fine; cost = weighed o l .cost }
+      plan-costs : costOf (withScans first l) ≡ record { verdict = Fine; cost = weighed o l .cost }
       unfolding costOf flowsFault checkOf
       plan-costs =
           let counts = or-fine (countsFault (first .«scan_count») (first .«slot_count») (first .«select_count»)) _ (listed-checked turned turned-clear accepted l same) .0 in

@@ -80,8 +80,8 @@ pub record Meaning (ts : Tables) (q : Query) (rows : List (List ℕ)) : Type 0 w
   pub answers : Answers ts q assignments
   pub rows-are : rows ≡ map (through (selectsOf q)) assignments
 
--- a plan's row list means a query; and every call of `evaluate`, from any row k on and into any buffer, shows its window of that list of
--- assignments seen through the select list: so it answers, and so it leaves the buffer
+-- a plan's row list means a query; and every call of `evaluate`, from any row k on and into any buffer, answers with its window of those
+-- assignments, seen through the select list, and leaves that window in the buffer
 pub record Shown (ts : Tables) (q : Query) (p : Plan) : Type 0 where
   pub meaning : Meaning ts q (rowList p ts)
   pub answer : (k : ℕ) (buffer : List ℕ)
