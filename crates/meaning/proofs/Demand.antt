@@ -1,10 +1,10 @@
 -- Demand 3, both halves: the plans of an order are those of the query in that order, and the search goes through them.
 use Rattle.query.specs.declared.Query.{Query}
+use Rattle.search.specs.Search.{arrangedQuery}
 use Rattle.meaning.specs.Demand.{RowsDemanded, SearchDemanded}
 use Rattle.meaning.proofs.Shown.{reached-shown}
 use Rattle.meaning.proofs.Ordered.{ordered-clear, ordered-accepted, ordered-shown}
 use Rattle.meaning.proofs.Cheapest.{searches}
-use Rattle.search.specs.Search.{arrangedQuery}
 
 pub rows-demanded : (q : Query) → RowsDemanded q
 rows-demanded q clear o t p plan ts tables =
