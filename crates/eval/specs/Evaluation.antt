@@ -72,17 +72,19 @@ unfoldable pub evaluationFault : Plan → Tables → Verdict
 evaluationFault p ts =
     orElse (checkOf p) (orElse (refuseIf (eqb (p .«scan_count») 0) 28 0) (tablesFault (ts .aevt) (ts .avet) (ts .eavt)))
 
+-- a call that shows its window of some rows of a width, from number k on: how many of them have room, and whether another follows
+abbrev pub shows : List (List ℕ) → ℕ → ℕ → ℕ → Evaluated
+shows rows width k room = record { verdict = Fine; count = length (window rows width k room); more = follows rows width k room }
+
+-- and the buffer that it leaves: those rows, and the words past the last as they were
+abbrev pub shownIn : List (List ℕ) → ℕ → ℕ → List ℕ → List ℕ
+shownIn rows width k buffer = filled (window rows width k (length buffer)) buffer
+
 -- the answer of evaluation from row k on, into a buffer of so many words
 unfoldable pub evaluateOf : Plan → Tables → ℕ → ℕ → Evaluated
 evaluateOf p ts k room =
-    unless (evaluationFault p ts) (λ v. record { verdict = v; count = 0; more = false })
-    (record {
-      verdict = Fine;
-      count = length (window (rowList p ts) (length (selectsOf p)) k room);
-      more = follows (rowList p ts) (length (selectsOf p)) k room;
-    })
+    unless (evaluationFault p ts) (λ v. record { verdict = v; count = 0; more = false }) (shows (rowList p ts) (length (selectsOf p)) k room)
 
 -- and the buffer after it
 unfoldable pub bufferAfter : Plan → Tables → ℕ → List ℕ → List ℕ
-bufferAfter p ts k buffer =
-    unless (evaluationFault p ts) (λ v. buffer) (filled (window (rowList p ts) (length (selectsOf p)) k (length buffer)) buffer)
+bufferAfter p ts k buffer = unless (evaluationFault p ts) (λ v. buffer) (shownIn (rowList p ts) (length (selectsOf p)) k buffer)

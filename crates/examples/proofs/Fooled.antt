@@ -16,11 +16,10 @@ use Rattle.planner.specs.Planning.{slotsOfConstants, scanOf, scansFor, planFor,
 use Rattle.lists.specs.Span.{span}
 use Rattle.tables.specs.Rows.{row, before, ascending, begins, keep, matching}
 use Rattle.tables.specs.Check.{sameRow, isAmong, missingFault, tablesFault}
-use Rattle.tables.specs.Passed.{Passed}
-use Rattle.tables.proofs.Promises.{tables-pass}
 use Rattle.visits.specs.Visits.{Tables, visited, standing, each, visits, slotsAt, rowList}
-use Rattle.meaning.specs.Meaning.{Meaning}
+use Rattle.meaning.specs.Demand.{Meaning, initial-plan}
 use Rattle.meaning.proofs.SameRows.{same-rows}
+use Rattle.meaning.proofs.Shown.{fine-same}
 use Rattle.meaning.proofs.Entries.{plan-shown}
 use Rattle.examples.specs.Bench.{e, overAttribute, triples, noTriples}
 
@@ -30,20 +29,16 @@ unfolding planOf planFault queryFault capacityFault variablesFault constants sta
 accepted = refl
 
 -- its plan's rows mean it, over any tables that pass their check
-e-means : (ts : Tables) → Passed (ts .aevt) (ts .avet) (ts .eavt) → Meaning ts e (rowList (planOf e .plan) ts)
-e-means ts passed = plan-shown e (padded-length _ maxStatements _) (padded-length _ maxSelects _) ts passed accepted .meaning
+e-means : (ts : Tables) → tablesFault (ts .aevt) (ts .avet) (ts .eavt) ≡ Fine → Meaning ts e (rowList (planOf e .plan) ts)
+e-means ts fine = plan-shown e (padded-length _ maxStatements _) (padded-length _ maxSelects _) accepted initial-plan ts (fine-same ts fine) .meaning
 
-triples-pass : Passed (triples .aevt) (triples .avet) (triples .eavt)
-triples-pass = tables-pass (triples .aevt) (triples .avet) (triples .eavt) checked
-  where
-    checked : tablesFault (triples .aevt) (triples .avet) (triples .eavt) ≡ Fine
-    checked = unfold tablesFault missingFault isAmong sameRow ascending before row span in refl
+triples-pass : tablesFault (triples .aevt) (triples .avet) (triples .eavt) ≡ Fine
+unfolding tablesFault missingFault isAmong sameRow ascending before row span
+triples-pass = refl
 
-none-pass : Passed [] [] []
-none-pass = tables-pass [] [] [] checked
-  where
-    checked : tablesFault [] [] [] ≡ Fine
-    checked = unfold tablesFault missingFault ascending span in refl
+none-pass : tablesFault [] [] [] ≡ Fine
+unfolding tablesFault missingFault ascending span
+none-pass = refl
 
 -- a row of 11 counts
 eleven : holds (same (11 ∷ []) (11 ∷ [])) ≡ 1

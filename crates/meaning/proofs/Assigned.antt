@@ -22,9 +22,9 @@ use Rattle.planned.proofs.Written.{written-named}
 use Rattle.listing.proofs.SameAccesses.{SameScans, same-written}
 use Rattle.tables.specs.Passed.{Passed}
 use Rattle.visits.specs.Visits.{Tables, valueOf}
-use Rattle.meaning.specs.Meaning.{areFacts}
+use Rattle.meaning.specs.Demand.{areFacts}
 use Rattle.meaning.proofs.Counted.{image-of, times-image}
-use Rattle.meaning.proofs.Reached.{finals, Fitting, Stays, reached-only, reached-once}
+use Rattle.meaning.proofs.Finals.{finals, Fitting, Stays, finals-only, finals-once}
 use Rattle.meaning.proofs.Stated.{constantsOf, scans-stated}
 
 -- the slots before any scan: the variables', and the constants
@@ -92,14 +92,14 @@ module _ (ts : Tables) (passed : Passed (ts .aevt) (ts .avet) (ts .eavt)) (n : �
   assigned = map (take n) (finals ts scans (begun n ss))
 
   reached : (z : List ℕ) → 1 ≤ timesIn z (finals ts scans (begun n ss)) → Fitting ts scans (begun n ss) z
-  reached z h = reached-only ts passed (n + constants ss) scans (ok .stays) (begun n ss) z begun-long h
+  reached z h = finals-only ts passed (n + constants ss) scans (ok .stays) (begun n ss) z begun-long h
 
   -- each stands as often as what it leaves in the slots
   times-assigned : (y : List ℕ) → Fitting ts scans (begun n ss) y → timesIn (take n y) assigned ≡ 1
   times-assigned y f =
       times-image (take n) y (finals ts scans (begun n ss))
       (λ z h e. final-parts z (reached z h) ∙ ap (λ (l : List ℕ). l ++ constantsOf ss) e ∙ sym (final-parts y f)) ∙
-      reached-once ts passed (n + constants ss) scans (ok .stays) (begun n ss) y begun-long f
+      finals-once ts passed (n + constants ss) scans (ok .stays) (begun n ss) y begun-long f
 
   pub assigned-every : (a : List ℕ) → length a ≡ n → areFacts ts ss a ≡ true → timesIn a assigned ≡ 1
   assigned-every a e f = rw (take-at a (constantsOf ss) n e) at (times-assigned (a ++ constantsOf ss) (fitting a e f))

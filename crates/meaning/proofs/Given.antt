@@ -1,13 +1,12 @@
--- What the rows mean of a plan listed for a query in the order in which its statements are given.
+-- What the rows mean of a plan listed for a query in the order in which its statements are given, and that such a plan passes the check.
 use mathlib.Core.Path.{_≡_, refl, sym, ap, _∙_}
-use mathlib.Core.List.{List, [], _∷_, _++_, map, map-append, List·Memᴰ}
+use mathlib.Core.List.{List, [], _∷_, _++_, map, map-append}
 use Prim.Native.Nat.{ℕ, zero, suc, _+_, _≤_, _<_, suc-le-suc}
 use native.Mathlib.Nat.{zero-add}
 use native.Mathlib.Omega.{arith}
 use lib.ListN.{length, getD, take, replicate}
 use lib.Seq.{getD-take, length-take-le}
 use Rattle.refusal.specs.declared.Verdict.the-variants.{Fine}
-use Rattle.lists.proofs.Padded.{padded-length}
 use Rattle.query.specs.declared.Var.{Var}
 use Rattle.query.specs.declared.Statement.{Statement}
 use Rattle.query.specs.declared.Query.{Query}
@@ -21,22 +20,21 @@ use Rattle.plan.specs.declared.Plan.{Plan}
 use Rattle.plan.specs.Plan.{variableSlot, scansOf, slotsOf, selectsOf as slotsSelected}
 use Rattle.plan_check.specs.Check.{checkOf}
 use Rattle.plan_check.specs.Promised.{Promised}
-use Rattle.plan_check.proofs.Promises.{promises, promised-passes}
-use Rattle.planner.specs.Refusals.{boundTwiceFault}
-use Rattle.planner.specs.Planning.{slotOf, slotsOfConstants, scansFor, slotsFor, planFor}
+use Rattle.plan_check.proofs.Promises.{promises}
+use Rattle.planner.specs.Planning.{slotOf, slotsOfConstants, scansFor, slotsFor, planFor, planOf}
 use Rattle.planner.proofs.Accepted.{query-fits}
 use Rattle.planned.proofs.Slots.{slots-length, constant-set}
 use Rattle.planned.proofs.Places.{selects-below, all-named}
-use Rattle.planned.proofs.Promised.{planned-scans, planned-slots, planned-selects, plan-promised}
+use Rattle.planned.proofs.Promised.{planned-slots, planned-selects}
+use Rattle.planned.proofs.Passes.{plan-there, plan-scans, plan-fits, plan-passes}
 use Rattle.listing.specs.Next.{withScans}
-use Rattle.listing.specs.Listing.{combinations}
 use Rattle.listing.proofs.SameAccesses.{SameScans}
-use Rattle.listing.proofs.Passes.{same-listed, same-scans, same-passes}
+use Rattle.listing.proofs.Passes.{same-scans, same-passes}
 use Rattle.tables.specs.Passed.{Passed}
 use Rattle.visits.specs.Visits.{Tables, valueOf, initialSlots, selected, slotsAt, visits, rowList}
 use Rattle.visits.proofs.Steady.{promised-sound, promised-last, constant-kept}
 use Rattle.query_check.specs.Clear.{Clear}
-use Rattle.meaning.specs.Meaning.{through, Meaning}
+use Rattle.meaning.specs.Demand.{through, Meaning}
 use Rattle.meaning.proofs.Parts.{parts}
 use Rattle.meaning.proofs.Stated.{constantsOf}
 use Rattle.meaning.proofs.Assigned.{begun, Answering, assigned, assigned-every, assigned-only, assigned-once}
@@ -63,8 +61,7 @@ variables-begun : (n : ℕ) → map (λ (s : SlotRecord). valueOf (s .definition
 variables-begun zero = refl
 variables-begun (suc n) = ap (λ (l : List ℕ). 0 ∷ l) (variables-begun n)
 
-module _ (q : Query) (clear : Clear q) (once : boundTwiceFault [] (statementsOf q) 0 ≡ Fine) (l : List Scan)
-    (listed : List·Memᴰ l (combinations (scansFor [] (statementsOf q) (q .«variable_count»)))) where
+module _ (q : Query) (clear : Clear q) (accepted : planOf q .verdict ≡ Fine) where
   abbrev n : ℕ
   n = q .«variable_count»
 
@@ -72,91 +69,89 @@ module _ (q : Query) (clear : Clear q) (once : boundTwiceFault [] (statementsOf 
   ss = statementsOf q
 
   abbrev first : Plan
-  first = planFor n (q .«where_statements» .count) ss (q .select .count) (selectsOf q)
-
-  abbrev listedPlan : Plan
-  listedPlan = withScans first l
+  first = planOf q .plan
 
   fits : Fits n (q .«where_statements» .count) ss (q .select .count)
   fits = query-fits q (clear .fine)
 
-  first-promised : Promised first
-  first-promised = plan-promised q (clear .statements-sized) (clear .selects-sized) (clear .fine) once
+  there : first ≡ planFor n (q .«where_statements» .count) ss (q .select .count) (selectsOf q)
+  there = plan-there q (clear .statements-sized) (clear .selects-sized) accepted
 
   first-scans : scansOf first ≡ scansFor [] ss n
-  first-scans =
-      let f = fits in
-      let z = clear .statements-sized in
-      planned-scans n (q .«where_statements» .count) ss (q .select .count) (selectsOf q) (length-take-le _ _ (omega arith)) (f .few-statements)
+  first-scans = plan-scans q (clear .statements-sized) (clear .selects-sized) accepted
 
   first-slots : slotsOf first ≡ slotsFor n ss
-  first-slots = planned-slots n (q .«where_statements» .count) ss (q .select .count) (selectsOf q) (fits .few-slots)
+  first-slots = rw there (planned-slots n (q .«where_statements» .count) ss (q .select .count) (selectsOf q) (fits .few-slots))
+
+  pub first-count : first .«scan_count» ≡ q .«where_statements» .count
+  first-count = ap (λ (p : Plan). p .«scan_count») there ∙ (unfold planFor in refl)
 
   pub first-selects : slotsSelected first ≡ map slotOf (selectsOf q)
   first-selects =
       let f = fits in
       let z = clear .selects-sized in
-      planned-selects n (q .«where_statements» .count) ss (q .select .count) (selectsOf q) (length-take-le _ _ (omega arith)) (f .few-selects)
+      rw there (planned-selects n (q .«where_statements» .count) ss (q .select .count) (selectsOf q) (length-take-le _ _ (omega arith)) (f .few-selects))
 
-  first-fits : first .«scan_count» ≤ length (first .scans)
-  unfolding planFor
-  first-fits = rw padded-length (fits .few-statements)
-
-  same-as-first : SameScans (scansOf first) l
-  same-as-first = rw first-scans (same-listed (scansFor [] ss n) l listed)
-
-  pub listed-scans : scansOf listedPlan ≡ l
-  listed-scans = same-scans first l first-fits same-as-first
-
-  pub listed-checked : checkOf listedPlan ≡ Fine
-  listed-checked = same-passes first l first-fits same-as-first (promised-passes first first-promised)
-
-  listed-promised : Promised listedPlan
-  listed-promised = promises listedPlan listed-checked
-
-  begun-is : initialSlots listedPlan ≡ begun n ss
-  begun-is =
-      ap (map (λ (s : SlotRecord). valueOf (s .definition))) first-slots ∙
-      map-append (λ (s : SlotRecord). valueOf (s .definition)) (replicate n variableSlot) (slotsOfConstants ss) ∙
-      ap (λ (z : List ℕ). z ++ constantsOf ss) (variables-begun n)
-
-  answering : Answering n ss l
-  answering =
-      let b = parts q (clear .fine) in
-      let size : length (slotsOf listedPlan) ≡ n + constants ss = ap length first-slots ∙ slots-length n ss in
-      record {
-        same = same-listed (scansFor [] ss n) l listed;
-        stays =
-            λ i h.
-            let low : i < length (scansOf listedPlan) = rw listed-scans h in
-            (rw (listed-scans, size) at (promised-sound listedPlan listed-promised i low), rw listed-scans at (promised-last listedPlan listed-promised i low));
-        below = statements-below n ss 0 (b .statements-fine);
-        all-named = λ x h. rw zero-add at (all-named ss n 0 (b .used-fine) x h);
-        constants-kept =
-            λ j h.
-            rw listed-scans at (constant-kept listedPlan listed-promised (n + j) (rw first-slots (constant-set n ss [] (n + j) (omega arith) (omega arith))));
-      }
+  pub first-fits : first .«scan_count» ≤ length (first .scans)
+  first-fits = plan-fits q (clear .statements-sized) (clear .selects-sized) accepted
 
   selects-low : (j : ℕ) (d : Var) → j < length (selectsOf q) → getD (selectsOf q) j d .0 < n
   selects-low = selects-below n (selectsOf q) (q .«where_statements» .count) (parts q (clear .fine) .selects-fine)
 
-  module _ (ts : Tables) (passed : Passed (ts .aevt) (ts .avet) (ts .eavt)) where
-    given-rows : rowList listedPlan ts ≡ map (through (selectsOf q)) (assigned ts passed n ss l answering)
-    unfolding rowList
-    given-rows =
-        rw (listed-scans, begun-is, first-selects)
-        (map-through n (selectsOf q) selects-low (slotsAt ts l (begun n ss)) (visits ts l (begun n ss)))
+  -- a plan of other scans of the same cycles
+  module _ (l : List Scan) (same : SameScans (scansOf first) l) where
+    abbrev listedPlan : Plan
+    listedPlan = withScans first l
 
-    pub given-meaning : Meaning ts q (rowList listedPlan ts)
-    given-meaning = record {
-      assignments = assigned ts passed n ss l answering;
-      answers = record {
-        none-twice = assigned-once ts passed n ss l answering;
-        every = λ a m. omega (arith, assigned-every ts passed n ss l answering a (m .one-per-variable) (m .all-facts));
-        only =
-            λ a h.
-            let w = assigned-only ts passed n ss l answering a h in
-            record { one-per-variable = w .0; all-facts = w .1 };
-      };
-      rows-are = given-rows;
-    }
+    pub listed-scans : scansOf listedPlan ≡ l
+    listed-scans = same-scans first l first-fits same
+
+    pub listed-checked : checkOf listedPlan ≡ Fine
+    listed-checked = same-passes first l first-fits same (plan-passes q (clear .statements-sized) (clear .selects-sized) accepted)
+
+    listed-promised : Promised listedPlan
+    listed-promised = promises listedPlan listed-checked
+
+    begun-is : initialSlots listedPlan ≡ begun n ss
+    begun-is =
+        ap (map (λ (s : SlotRecord). valueOf (s .definition))) first-slots ∙
+        map-append (λ (s : SlotRecord). valueOf (s .definition)) (replicate n variableSlot) (slotsOfConstants ss) ∙
+        ap (λ (z : List ℕ). z ++ constantsOf ss) (variables-begun n)
+
+    answering : Answering n ss l
+    answering =
+        let b = parts q (clear .fine) in
+        let size : length (slotsOf listedPlan) ≡ n + constants ss = ap length first-slots ∙ slots-length n ss in
+        record {
+          same = rw first-scans at same;
+          stays =
+              λ i h.
+              let low : i < length (scansOf listedPlan) = rw listed-scans h in
+              (rw (listed-scans, size) at (promised-sound listedPlan listed-promised i low), rw listed-scans at (promised-last listedPlan listed-promised i low));
+          below = statements-below n ss 0 (b .statements-fine);
+          all-named = λ x h. rw zero-add at (all-named ss n 0 (b .used-fine) x h);
+          constants-kept =
+              λ j h.
+              rw listed-scans at (constant-kept listedPlan listed-promised (n + j) (rw first-slots (constant-set n ss [] (n + j) (omega arith) (omega arith))));
+        }
+
+    module _ (ts : Tables) (passed : Passed (ts .aevt) (ts .avet) (ts .eavt)) where
+      given-rows : rowList listedPlan ts ≡ map (through (selectsOf q)) (assigned ts passed n ss l answering)
+      unfolding rowList
+      given-rows =
+          rw (listed-scans, begun-is, first-selects)
+          (map-through n (selectsOf q) selects-low (slotsAt ts l (begun n ss)) (visits ts l (begun n ss)))
+
+      pub given-meaning : Meaning ts q (rowList listedPlan ts)
+      given-meaning = record {
+        assignments = assigned ts passed n ss l answering;
+        answers = record {
+          none-twice = assigned-once ts passed n ss l answering;
+          every = λ a m. omega (arith, assigned-every ts passed n ss l answering a (m .one-per-variable) (m .all-facts));
+          only =
+              λ a h.
+              let w = assigned-only ts passed n ss l answering a h in
+              record { one-per-variable = w .0; all-facts = w .1 };
+        };
+        rows-are = given-rows;
+      }

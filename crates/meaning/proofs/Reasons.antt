@@ -1,14 +1,14 @@
--- A refused query has a reason: each of 10 to 16 is given only where its sentence is true, at the lowest place, and one of them wherever
--- planning gives no plan.
+-- A refused query has a reason: each of 10 to 16 is given only where its sentence is true, at the lowest place, one of them wherever planning
+-- gives no plan, and none where that of a lower number is true.
 use mathlib.Core.Path.{_≡_, refl, sym, ap, subst, _∙_}
 use mathlib.Core.Logic.{_⊎_, inl, inr, ⊎-elim}
-use Prim.Native.Nat.{ℕ, zero, suc, _+_, _<_}
+use Prim.Native.Nat.{ℕ, zero, suc, _+_, _≤_, _<_}
 use native.Mathlib.Numerals.{add-one}
 use native.Mathlib.Nat.{zero-add, add-zero, not-suc-le-zero}
 use native.Mathlib.Omega.{arith}
 use mathlib.Core.List.{List, [], _∷_}
 use mathlib.Core.Bool.{not, false≢true}
-use borrow.Author.Tests.{ltb-true, leb-true, leb-false, eqb-true, not-true, not-false}
+use borrow.Author.Tests.{lt-ltb, ltb-true, leb-true, leb-false, eqb-true, not-true, not-false}
 use lib.ListN.{length, getD, drop, drop-of-length-le}
 use lib.Seq.{drop-cons}
 use lib.Dec.{ltb, leb, eqb}
@@ -22,6 +22,7 @@ use Rattle.query.specs.declared.Statement.{Statement}
 use Rattle.query.specs.declared.Query.{Query}
 use Rattle.query.specs.Query.{statementsOf, selectsOf, named, zeroVar, zeroStatement}
 use Rattle.query_check.specs.Refusals.{constants, high, statementsFault, selectsFault, unusedFault, capacityFault, variablesFault, queryFault}
+use Rattle.query_check.proofs.Capacity.{Fits, capacity-fine}
 use Rattle.query_check.proofs.Variables.{statements-below}
 use Rattle.plan.specs.declared.Plan.{Plan}
 use Rattle.plan.specs.Plan.{emptyPlan}
@@ -31,9 +32,10 @@ use Rattle.planner.specs.Planning.{planFor, planOf}
 use Rattle.planner.proofs.Accepted.{query-fits}
 use Rattle.planned.proofs.Places.{selects-below, all-named}
 use Rattle.planned.proofs.Passes.{either-verdict}
-use Rattle.meaning.specs.Reasons.{HighStatement, HighSelect, Unnamed, QueryReason, over-statements, over-slots, over-selects, no-selects, high-statement, high-select, unused, queryRefusal, PlanReason, of-query, new-twice, planRefusal, PlanningExplained}
+use Rattle.meaning.specs.Reasons.{HighStatement, HighSelect, Unnamed, QueryReason, over-statements, over-slots, over-selects, no-selects, high-statement, high-select, unused, queryRefusal, PlanReason, of-query, new-twice, planRefusal, numberOf, PlanningExplained}
 use Rattle.meaning.proofs.Parts.{parts}
 use Rattle.meaning.proofs.Sound.{bound-explained, bound-sound}
+use Rattle.meaning.proofs.Numbers.{if-within, or-within, or-first, if-first, statements-within, selects-within, bound-within, capacity-within, query-within}
 use Rattle.meaning.proofs.Explained.{Explained, or-explained, if-explained, high-names, below-names, below-next}
 
 module _ (q : Query) where
@@ -76,6 +78,9 @@ module _ (q : Query) where
       let s = getD ss j zeroStatement in
       let b = statements-below n ss 0 low j zeroStatement (w .0) in
       below-names n (s .entity .0) (s .value) (b .entity-below) (b .value-below) (w .1) (w .2) (w .3)
+
+  select-low : selectsFault n vs m ≡ Fine → (j : ℕ) → HighSelect q j → ⊥
+  select-low low j w = omega (arith, w .1, selects-below n vs m low j zeroVar (w .0))
 
   -- 14, selects
   selects-explained : ((j : ℕ) → HighStatement q j → ⊥) → (left i : ℕ) → i + left ≡ length vs → ((j : ℕ) → j < i → HighSelect q j → ⊥)
@@ -138,10 +143,41 @@ module _ (q : Query) where
   query-sound fine (over-selects h) = omega (arith, h, query-fits q fine .few-selects)
   query-sound fine (no-selects h) = omega (arith, h, query-fits q fine .some-select)
   query-sound fine (high-statement i h) = none-high (parts q fine .statements-fine) i (h .here)
-  query-sound fine (high-select z i h) = let w = h .here in omega (arith, w .1, selects-below n vs m (parts q fine .selects-fine) i zeroVar (w .0))
+  query-sound fine (high-select z i h) = select-low (parts q fine .selects-fine) i (h .here)
   query-sound fine (unused v h) =
       let w = h .here in
       false≢true (sym (w .1) ∙ rw zero-add at (all-named ss n 0 (parts q fine .used-fine) v (w .0)))
+
+  -- and none of a lower number than the one given
+  in-capacity : (k : ℕ) → (Fits n m ss (q .select .count) → ⊥) → numberOf (capacityFault n m ss (q .select .count)) ≤ k → numberOf (queryFault q) ≤ k
+  unfolding queryFault
+  in-capacity k unfit h = or-first k (capacityFault n m ss (q .select .count)) _ (λ e. unfit (capacity-fine n m ss (q .select .count) e)) h
+
+  in-variables : (k : ℕ) → 13 ≤ k → numberOf (variablesFault n m ss vs) ≤ k → numberOf (queryFault q) ≤ k
+  unfolding queryFault
+  in-variables k low h = or-within k (capacityFault n m ss (q .select .count)) _ (capacity-within k low n m ss (q .select .count)) h
+
+  pub query-first : (w : QueryReason q) → numberOf (queryFault q) ≤ numberOf (queryRefusal w)
+  unfolding variablesFault capacityFault
+  query-first (over-statements h) =
+      in-capacity 10 (λ f. omega (arith, h, f .few-statements)) (if-first 10 (ltb maxStatements m) 10 0 _ (lt-ltb _ _ h) (omega arith))
+  query-first (over-slots h) =
+      in-capacity 11 (λ f. omega (arith, h, f .few-slots))
+      (or-within 11 (refuseIf (ltb maxStatements m) 10 0) _ (if-within 11 (ltb maxStatements m) 10 0 (omega arith))
+      (if-first 11 (ltb maxSlots (n + constants ss)) 11 0 _ (lt-ltb _ _ h) (omega arith)))
+  query-first (over-selects h) =
+      in-capacity 12 (λ f. omega (arith, h, f .few-selects))
+      (or-within 12 (refuseIf (ltb maxStatements m) 10 0) _ (if-within 12 (ltb maxStatements m) 10 0 (omega arith))
+      (or-within 12 (refuseIf (ltb maxSlots (n + constants ss)) 11 0) _ (if-within 12 (ltb maxSlots (n + constants ss)) 11 0 (omega arith))
+      (if-first 12 (ltb maxSelects (q .select .count)) 12 0 _ (lt-ltb _ _ h) (omega arith))))
+  query-first (no-selects h) = in-capacity 13 (λ f. omega (arith, h, f .some-select)) (capacity-within 13 (omega arith) n m ss (q .select .count))
+  query-first (high-statement i h) =
+      in-variables 14 (omega arith) (or-first 14 (statementsFault n ss 0) _ (λ e. none-high e i (h .here)) (statements-within 14 (omega arith) n ss 0))
+  query-first (high-select z i h) =
+      in-variables 14 (omega arith)
+      (or-within 14 (statementsFault n ss 0) _ (statements-within 14 (omega arith) n ss 0)
+      (or-first 14 (selectsFault n vs m) _ (λ e. select-low e i (h .here)) (selects-within 14 (omega arith) n vs m)))
+  query-first (unused v h) = query-within 15 (omega arith) q
 
   plan-explained : Explained (planRefusal {q = q}) (planFault q)
   unfolding planFault
@@ -149,10 +185,15 @@ module _ (q : Query) where
       or-explained planRefusal (queryFault q) _ (⊎-elim inl (λ w. inr (of-query (w .0), w .1)) query-explained)
       (λ _. ⊎-elim inl (λ w. inr (new-twice (w .0 .0) (w .0 .1), w .1)) (bound-explained ss))
 
-  pub plan-sound : planFault q ≡ Fine → PlanReason q → ⊥
+  plan-sound : planFault q ≡ Fine → PlanReason q → ⊥
   unfolding planFault
   plan-sound fine (of-query r) = query-sound (or-fine (queryFault q) _ fine .0) r
   plan-sound fine (new-twice i h) = bound-sound ss (or-fine (queryFault q) _ fine .1) i (h .here)
+
+  plan-first : (w : PlanReason q) → numberOf (planFault q) ≤ numberOf (planRefusal w)
+  unfolding planFault
+  plan-first (of-query r) = or-first _ (queryFault q) _ (λ e. query-sound e r) (query-first r)
+  plan-first (new-twice i h) = or-within 16 (queryFault q) _ (query-within 16 (omega arith) q) (bound-within 16 (omega arith) [] ss 0)
 
   either-answer : (p : Plan) (v : Verdict) → Explained (planRefusal {q = q}) v →
       let answer = unless {A = Planned} v (λ w. record { verdict = w; plan = emptyPlan }) (record { verdict = Fine; plan = p }) in
@@ -166,4 +207,5 @@ module _ (q : Query) where
   planning-explained = record {
     answer = either-answer (planFor n m ss (q .select .count) vs) (planFault q) plan-explained;
     refuses = λ w e. plan-sound (sym (either-verdict (planFault q) _) ∙ e) w;
+    first = λ w. rw (either-verdict (planFault q) (planFor n m ss (q .select .count) vs)) (plan-first w);
   }

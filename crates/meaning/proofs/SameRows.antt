@@ -1,6 +1,7 @@
--- Rows that mean one query are the same rows, each as often: so it does not matter which plan of which sound order is evaluated.
+-- A list of all assignments that make the statements facts, none twice, is determined up to order. So rows that mean one query are the same
+-- rows, each as often, and it does not matter which plan of which sound order is evaluated.
 use mathlib.Core.Path.{_≡_, refl, sym, ap, _∙_}
-use Prim.Native.Nat.{ℕ, _≤_}
+use Prim.Native.Nat.{ℕ, zero, suc, _≤_}
 use native.Mathlib.Omega.{arith}
 use native.Mathlib.Nat.{not-suc-le-zero}
 use mathlib.Core.List.{List, [], _∷_, _++_, map, map-append}
@@ -9,8 +10,16 @@ use Rattle.orders.proofs.Counts.{holds-yes, holds-no, timesIn-append}
 use Rattle.query.specs.declared.Query.{Query}
 use Rattle.query.specs.Query.{selectsOf}
 use Rattle.visits.specs.Visits.{Tables}
-use Rattle.meaning.specs.Meaning.{through, Meaning}
-use Rattle.meaning.proofs.Theorem.{determined}
+use Rattle.meaning.specs.Demand.{Answers, through, Meaning}
+
+-- two lists that hold the same assignments, none twice, hold each as often
+pub determined : {ts : Tables} {q : Query} {l m : List (List ℕ)} → Answers ts q l → Answers ts q m → (a : List ℕ) → timesIn a l ≡ timesIn a m
+determined {ts} {q} {l} {m} x y a = go (timesIn a l) refl (timesIn a m) refl
+  where
+    go : (i : ℕ) → timesIn a l ≡ i → (j : ℕ) → timesIn a m ≡ j → timesIn a l ≡ timesIn a m
+    go zero p zero q = p ∙ sym q
+    go (suc i) p j q = omega (arith, x .none-twice a, y .none-twice a, y .every a (x .only a (omega arith)))
+    go zero p (suc j) q = omega (arith, x .none-twice a, y .none-twice a, x .every a (y .only a (omega arith)))
 
 -- a list that stands among others parts them
 abbrev Parts : List ℕ → List (List ℕ) → Type 0

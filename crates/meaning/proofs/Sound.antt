@@ -21,11 +21,12 @@ use Rattle.planned.proofs.Places.{bound-once}
 use Rattle.search.specs.Search.{isSound}
 use Rattle.search.proofs.Answer.{sound-fine}
 use Rattle.tables.proofs.Order.{both}
-use Rattle.meaning.specs.Reasons.{Lowest, NewTwice}
+use Rattle.meaning.specs.Demand.{NewTwice}
+use Rattle.meaning.specs.Reasons.{Lowest}
 use Rattle.meaning.proofs.Explained.{Explained, or-explained, if-explained, below-next}
 
 -- 16 at the lowest statement that binds one variable twice
-abbrev pub boundRefusal : (ss : List Statement) → (i : ℕ) × Lowest (NewTwice ss) i → Verdict
+abbrev boundRefusal : (ss : List Statement) → (i : ℕ) × Lowest (NewTwice ss) i → Verdict
 boundRefusal ss w = refused 16 (w .0)
 
 module _ (ss : List Statement) where
@@ -56,9 +57,9 @@ module _ (ss : List Statement) where
   pub bound-sound : boundTwiceFault [] ss 0 ≡ Fine → (i : ℕ) → NewTwice ss i → ⊥
   bound-sound fine i w = false≢true (sym (bound-once [] ss 0 fine i zeroStatement (w .0)) ∙ rw (w .1, w .2) refl)
 
-  -- an order is sound if and only if no statement has one variable as both entity and value that no earlier statement names
+  pub without-fine : ((i : ℕ) → NewTwice ss i → ⊥) → boundTwiceFault [] ss 0 ≡ Fine
+  without-fine n = ⊎-elim (λ e. e) (λ w. absurd (n (w .0 .0) (w .0 .1 .here))) bound-explained
+
+  -- `isSound`, which the search asks, is what 01 says of a sound order
   pub sound-without : (isSound ss ≡ true) ↔ ((i : ℕ) → NewTwice ss i → ⊥)
-  sound-without = (
-    λ e. bound-sound (sound-fine (boundTwiceFault [] ss 0) e),
-    λ n. ⊎-elim (λ e. rw e refl) (λ w. absurd (n (w .0 .0) (w .0 .1 .here))) bound-explained,
-  )
+  sound-without = (λ e. bound-sound (sound-fine (boundTwiceFault [] ss 0) e), λ n. rw (without-fine n) refl)

@@ -19,9 +19,9 @@ use Rattle.query.specs.Query.{named}
 use Rattle.planner.specs.Planning.{slotOf, constantSlots, slotsOfConstants, valueSlot, isValueSet, scanFor, scanOf, scansFor}
 use Rattle.listing.proofs.SameAccesses.{SameAccesses, SameScans, none, more}
 use Rattle.visits.specs.Visits.{Tables, wanted, valueOf}
-use Rattle.meaning.specs.Meaning.{isFact, valueUnder, stated, areFacts}
+use Rattle.meaning.specs.Demand.{isFact, valueUnder, stated, areFacts}
 use Rattle.meaning.proofs.Row.{same-fact}
-use Rattle.meaning.proofs.Reached.{scanFacts}
+use Rattle.meaning.proofs.Finals.{scanFacts}
 
 -- the values of the statements' constants, in order
 abbrev pub constantsOf : List Statement → List ℕ

@@ -1,4 +1,2 @@
-pub mod Meaning
+pub mod Demand
 pub mod Reasons
-pub mod Searched
-pub mod Shown

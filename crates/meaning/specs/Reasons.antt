@@ -1,21 +1,21 @@
--- 01, "Refusal numbers", 10 to 18: the sentence of each number, and its place.
+-- 01, "Refusal numbers", 10 to 18: the sentence of each number, and its place; and that planning and the search refuse for the first of them.
 use mathlib.Core.Path.{_≡_}
 use mathlib.Core.Logic.{_⊎_}
 use Prim.Native.Nat.{ℕ, _+_, _≤_, _<_}
 use mathlib.Core.List.{List}
 use mathlib.Core.Bool.{true, false}
-use lib.ListN.{length, getD, take}
+use lib.ListN.{length, getD}
 use Rattle.capacity.specs.Capacity.{maxStatements, maxSlots, maxSelects, maxSearched}
 use Rattle.refusal.specs.declared.Verdict.{Verdict}
-use Rattle.refusal.specs.declared.Verdict.the-variants.{Fine}
+use Rattle.refusal.specs.declared.Verdict.the-variants.{Fine, Refused}
 use Rattle.refusal.specs.Verdict.{refused}
-use Rattle.query.specs.declared.Statement.{Statement}
 use Rattle.query.specs.declared.Query.{Query}
-use Rattle.query.specs.Query.{statementsOf, selectsOf, isVariable, names, named, zeroVar, zeroStatement}
+use Rattle.query.specs.Query.{statementsOf, selectsOf, names, named, zeroVar, zeroStatement}
 use Rattle.query_check.specs.Refusals.{constants}
 use Rattle.plan.specs.Plan.{emptyPlan}
 use Rattle.planner.specs.Planning.{planFor, planOf}
-use Rattle.meaning.specs.Meaning.{SoundOrder}
+use Rattle.search.specs.Search.{notFound, searchOf}
+use Rattle.meaning.specs.Demand.{NewTwice, SoundOrder, FirstOfLeast}
 
 -- it is so of a place, and of none lower
 pub record Lowest (P : ℕ → Type 0) (i : ℕ) : Type 0 where
@@ -33,12 +33,6 @@ HighSelect q i = (i < length (selectsOf q)) × (q .«variable_count» ≤ getD (
 -- variable v in no statement
 abbrev pub Unnamed : Query → ℕ → Type 0
 Unnamed q v = (v < q .«variable_count») × (named (statementsOf q) v ≡ false)
-
--- entity and value of statement i are one variable, which no statement before it names. A sound order is one without (`sound-without`)
-abbrev pub NewTwice : List Statement → ℕ → Type 0
-NewTwice ss i =
-    (i < length ss) × (isVariable (getD ss i zeroStatement .value) (getD ss i zeroStatement .entity .0) ≡ true)
-    × (named (take i ss) (getD ss i zeroStatement .entity .0) ≡ false)
 
 -- why a query is refused by planning and by the search alike
 pub data QueryReason (q : Query) : Type 0 where
@@ -80,9 +74,22 @@ searchRefusal (of-query w) = queryRefusal w
 searchRefusal (over-searched h) = refused 17 0
 searchRefusal (no-sound-order h) = refused 18 0
 
--- planning gives a plan, or it refuses for a reason and gives the empty plan; and where there is a reason it refuses
+-- the number of a refusal; 0 where there is none
+abbrev pub numberOf : Verdict → ℕ
+numberOf Fine = 0
+numberOf (Refused r) = r .number
+
+-- planning gives a plan, or it refuses for a reason and gives the empty plan; where there is a reason it refuses; and no reason that is true has a
+-- lower number than the one given
 pub record PlanningExplained (q : Query) : Type 0 where
   pub answer :
       (planOf q ≡ record { verdict = Fine; plan = planFor (q .«variable_count») (q .«where_statements» .count) (statementsOf q) (q .select .count) (selectsOf q) })
       ⊎ ((w : PlanReason q) × (planOf q ≡ record { verdict = planRefusal w; plan = emptyPlan }))
   pub refuses : PlanReason q → planOf q .verdict ≡ Fine → ⊥
+  pub first : (w : PlanReason q) → numberOf (planOf q .verdict) ≤ numberOf (planRefusal w)
+
+-- the search finds the first of least cost, or it refuses for a reason and everything it answers is zeros; and likewise
+pub record SearchExplained (q : Query) : Type 0 where
+  pub answer : FirstOfLeast q (searchOf q) ⊎ ((w : SearchReason q) × (searchOf q ≡ notFound (searchRefusal w)))
+  pub refuses : SearchReason q → searchOf q .verdict ≡ Fine → ⊥
+  pub first : (w : SearchReason q) → numberOf (searchOf q .verdict) ≤ numberOf (searchRefusal w)

@@ -5,11 +5,10 @@ use mathlib.Core.List.{List, [], _∷_}
 use mathlib.Core.Bool.{Bool, true, false, cond}
 use lib.ListN.{take, replicate}
 use lib.Dec.{ltb}
-use Rattle.capacity.specs.Capacity.{maxStatements, maxScans, maxSearched}
+use Rattle.capacity.specs.Capacity.{maxScans, maxSearched}
 use Rattle.lists.specs.Padded.{padded}
 use Rattle.refusal.specs.declared.Verdict.the-variants.{Fine}
 use Rattle.query.specs.declared.Query.{Query}
-use Rattle.query.specs.Query.{statementsOf, zeroStatement}
 use Rattle.query_check.specs.Clear.{Clear}
 use Rattle.plan.specs.declared.Scan.{Scan}
 use Rattle.plan.specs.declared.Plan.{Plan}
@@ -19,7 +18,8 @@ use Rattle.orders.specs.Lists.{upTo, OrderOf}
 use Rattle.listing.specs.Listing.{Initial}
 use Rattle.search.specs.declared.Best.{Best}
 use Rattle.search.specs.declared.Found.{Found}
-use Rattle.search.specs.Search.{Candidate, arranged}
+use Rattle.search.specs.Search.{Candidate}
+unfoldable pub use Rattle.search.specs.Search.{arrangedQuery}
 
 -- none so far, and a candidate
 abbrev pub none : Best
@@ -40,14 +40,6 @@ better b c = cond (isBetter (b .«is_some») (b .cost) (c .cost)) c b
 unfoldable pub bestFrom : Best → List Candidate → Best
 bestFrom b [] = b
 bestFrom b (c ∷ cs) = bestFrom (better b (kept c)) cs
-
--- the query with its statements in another order
-abbrev pub arrangedQuery : Query → List ℕ → Query
-arrangedQuery q o = record {
-  «variable_count» = q .«variable_count»;
-  «where_statements» = record { items = padded zeroStatement maxStatements (arranged (statementsOf q) o); count = q .«where_statements» .count };
-  select = q .select;
-}
 
 -- a query that is searched: clear of 10 to 15, and of 17
 pub record Searchable (q : Query) : Type 0 where

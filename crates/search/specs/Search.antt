@@ -4,7 +4,7 @@ use mathlib.Core.List.{List, [], _∷_, _++_, map}
 use mathlib.Core.Bool.{Bool, true, false, cond}
 use lib.ListN.{getD, replicate}
 use lib.Dec.{ltb}
-use Rattle.capacity.specs.Capacity.{maxSearched}
+use Rattle.capacity.specs.Capacity.{maxStatements, maxSearched}
 use Rattle.refusal.specs.declared.Verdict.{Verdict}
 use Rattle.refusal.specs.declared.Verdict.the-variants.{Fine, Refused}
 use Rattle.refusal.specs.Verdict.{refuseIf, orElse, unless}
@@ -38,6 +38,14 @@ orders n = listed (factorial n) (start n) (upTo n)
 -- the statements in an order
 abbrev pub arranged : List Statement → List ℕ → List Statement
 arranged ss o = map (λ i. getD ss i zeroStatement) o
+
+-- the query with its statements in an order, which is planned afresh: the same variables and selects, and zeros past the last statement
+abbrev pub arrangedQuery : Query → List ℕ → Query
+arrangedQuery q o = record {
+  «variable_count» = q .«variable_count»;
+  «where_statements» = record { items = padded zeroStatement maxStatements (arranged (statementsOf q) o); count = q .«where_statements» .count };
+  select = q .select;
+}
 
 -- an order is sound if no statement has one variable as both entity and value that no earlier statement names
 abbrev pub isFine : Verdict → Bool

@@ -27,7 +27,7 @@ use Rattle.visits.specs.Visits.{Tables, tableOf, rowFor, inputs, wanted, visite
 use Rattle.visits.specs.Sound.{Steady, Agree}
 use Rattle.visits.proofs.Slots.{key-agree, standing-length, standing-agree, standing-back}
 use Rattle.visits.proofs.Steady.{Last}
-use Rattle.meaning.specs.Meaning.{isFact}
+use Rattle.meaning.specs.Demand.{isFact}
 use Rattle.meaning.proofs.Row.{row-back, begins-own, in-order, stands-wanted, stands-still}
 use Rattle.meaning.proofs.Counted.{times-each, sum-one, sum-some}
 
@@ -141,16 +141,16 @@ module _ (ts : Tables) (passed : Passed (ts .aevt) (ts .avet) (ts .eavt)) where
 
   module _ (n : ℕ) where
     -- nothing else is reached
-    pub reached-only : (ss : List Scan) → Stays n ss → (slots final : List ℕ) → length slots ≡ n → 1 ≤ timesIn final (finals ts ss slots)
+    pub finals-only : (ss : List Scan) → Stays n ss → (slots final : List ℕ) → length slots ≡ n → 1 ≤ timesIn final (finals ts ss slots)
         → Fitting ts ss slots final
     unfolding visits slotsAt timesIn scanFacts visited matching
-    reached-only [] ok slots final size h = go (same final slots) refl
+    finals-only [] ok slots final size h = go (same final slots) refl
       where
         go : (d : Dec (final ≡ slots)) → same final slots ≡ d → Fitting ts [] slots final
         go (yes e) q = record { long = ap length e; agree = record { same = λ x _. ap (λ (l : List ℕ). getD l x 0) e }; facts = refl }
         go (no z) q = absurd (omega (arith, h, holds-no (same final slots) z))
-    reached-only (s ∷ ss) ok slots final size h =
-        go (λ k. reached-only ss (λ i l. ok (suc i) (suc-le-suc l)) (standing ts s slots k) final (standing-length ts s (ok 0 (omega arith) .0) k slots ∙ size))
+    finals-only (s ∷ ss) ok slots final size h =
+        go (λ k. finals-only ss (λ i l. ok (suc i) (suc-le-suc l)) (standing ts s slots k) final (standing-length ts s (ok 0 (omega arith) .0) k slots ∙ size))
       where
         go : ((k : ℕ) → 1 ≤ timesIn final (finals ts ss (standing ts s slots k)) → Fitting ts ss (standing ts s slots k) final) → Fitting ts (s ∷ ss) slots final
         go r =
@@ -158,14 +158,14 @@ module _ (ts : Tables) (passed : Passed (ts .aevt) (ts .avet) (ts .eavt)) where
             fitting-back n s ss (ok 0 (omega arith) .0) (ok 0 (omega arith) .1) slots final size (w .0) (omega (arith, w .2)) (w .3) (r (w .0) (w .4))
 
     -- and each is reached once
-    pub reached-once : (ss : List Scan) → Stays n ss → (slots final : List ℕ) → length slots ≡ n → Fitting ts ss slots final
+    pub finals-once : (ss : List Scan) → Stays n ss → (slots final : List ℕ) → length slots ≡ n → Fitting ts ss slots final
         → timesIn final (finals ts ss slots) ≡ 1
     unfolding visits slotsAt timesIn visited matching isWritten
-    reached-once [] ok slots final size f =
+    finals-once [] ok slots final size f =
         let e : final ≡ slots = ext-getD 0 final slots (f .long) (λ i _. f .agree .same i refl) in
         omega (arith, holds-yes (same final slots) e)
-    reached-once (s ∷ ss) ok slots final size f =
-        go (λ k. reached-once ss (λ i l. ok (suc i) (suc-le-suc l)) (standing ts s slots k) final (standing-length ts s (ok 0 (omega arith) .0) k slots ∙ size))
+    finals-once (s ∷ ss) ok slots final size f =
+        go (λ k. finals-once ss (λ i l. ok (suc i) (suc-le-suc l)) (standing ts s slots k) final (standing-length ts s (ok 0 (omega arith) .0) k slots ∙ size))
       where
         steady : Steady n s ss
         steady = ok 0 (omega arith) .0
@@ -188,6 +188,6 @@ module _ (ts : Tables) (passed : Passed (ts .aevt) (ts .avet) (ts .eavt)) where
             (λ j _ h p z.
             none j (g j) refl
             (λ c.
-            let rest = reached-only ss (λ i l. ok (suc i) (suc-le-suc l)) (standing ts s slots j) final (standing-length ts s steady j slots ∙ size) c in
+            let rest = finals-only ss (λ i l. ok (suc i) (suc-le-suc l)) (standing ts s slots j) final (standing-length ts s steady j slots ∙ size) c in
             let e = row-stated n s ss steady last slots final size j (omega (arith, h)) p rest in
             z (table-once (s .index) j (w .at) (omega (arith, h)) (w .low) (sym e ∙ w .is))))
