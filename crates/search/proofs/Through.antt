@@ -3,7 +3,7 @@ use mathlib.Core.Path.{_≡_, refl, sym, ap, _∙_}
 use Prim.Native.Nat.{ℕ, suc, _≤_, _<_}
 use native.Mathlib.Omega.{arith}
 use mathlib.Core.List.{List, [], _∷_, _++_, map, List·Memᴰ, List·Memᴰ·head, List·Memᴰ·tail}
-use mathlib.Core.Bool.{Bool, true, false, cond, false≢true}
+use mathlib.Core.Bool.{true, false, false≢true}
 use borrow.Author.Tests.{le-ltb}
 use lib.ListN.{length, take, drop}
 use lib.Seq.{length-take-le, take-at}
@@ -15,26 +15,17 @@ use Rattle.plan.specs.declared.Scan.{Scan}
 use Rattle.plan.specs.Plan.{zeroScan, scanFlowsFault}
 use Rattle.cost.specs.declared.Costed.{Costed}
 use Rattle.cost.specs.Cost.{weight, costOfScans}
-use Rattle.listing.specs.Next.{isNewIndex, nextScans, isNewScans, stepped, nextOfScans}
+use Rattle.listing.specs.Next.{nextScans, isNewScans, stepped, nextOfScans}
 use Rattle.listing.specs.Listing.{combinations}
 use Rattle.listing.proofs.Circle.{Run}
 use Rattle.listing.proofs.Listed.{wheels}
 use Rattle.listing.proofs.Passes.{same-listed}
-use Rattle.listing.proofs.NextLists.{same-flows}
+use Rattle.listing.proofs.NextLists.{same-flows, next-length}
 use Rattle.search.specs.declared.Best.{Best}
 use Rattle.search.specs.Search.{Candidate, weighed}
 use Rattle.search.specs.Best.{kept, better, bestFrom, Orders, Plans}
 use Rattle.search.proofs.Bounded.{cost-fits}
 use Rattle.search.proofs.Left.{stepsLeft, run-left}
-
-length-next : (l : List Scan) → length (nextScans l) ≡ length l
-unfolding nextScans
-length-next [] = refl
-length-next (s ∷ l) = ap suc (go (isNewIndex (s .flow) (s .index)) (length-next l))
-  where
-    go : (t : Bool) → length (nextScans l) ≡ length l → length (cond t l (nextScans l)) ≡ length l
-    go true e = refl
-    go false e = e
 
 -- the plans from these scans on
 abbrev pub plansLeft : ℕ → List Scan → List Scan → ℕ
@@ -107,12 +98,12 @@ module _ (order : List ℕ) (count : ℕ) (best₀ : Best) (scans₀ : List Scan
     -- and before: another follows
     module _ (n : isNewScans l ≡ true) (scans′ : List Scan) (e : scans′ ≡ nextScans l ++ drop count scans) where
       advanced : take count scans′ ≡ nextScans l
-      advanced = ap (take count) e ∙ take-at (nextScans l) (drop count scans) count (length-next l ∙ long)
+      advanced = ap (take count) e ∙ take-at (nextScans l) (drop count scans) count (next-length l ∙ long)
 
       behind : padded zeroScan maxScans (take count scans′) ≡ scans′
       behind =
           let h : length l ≤ maxScans = omega (arith, long, o .few) in
-          let f = padded-other zeroScan maxScans l (nextScans l) (length-next l) h in
+          let f = padded-other zeroScan maxScans l (nextScans l) (next-length l) h in
           ap (padded zeroScan maxScans) advanced ∙ sym (rw (t .zeros, long) at f) ∙ sym e
 
       pub through-again : Through order count best₀ scans₀ after scans′
