@@ -1,4 +1,5 @@
 pub mod Laid
 pub mod Written
 pub mod Back
+pub mod Indexes
 pub mod OneAnswer
