@@ -25,11 +25,11 @@ pub struct NextPlan {
     pub plan: Plan,
 }
 
-// The same for scans without a plan.
+// The same for scans without a plan. They stand in front: behind a bool the compiler copies them twice more for each plan searched.
 pub struct NextScans {
-    pub verdict: Verdict,
-    pub is_new: bool,
     pub scans: [Scan; MAX_SCANS],
+    pub is_new: bool,
+    pub verdict: Verdict,
 }
 
 // The answer of `next_scan`: the scan, and whether it is new.
