@@ -1,7 +1,8 @@
 // Makes cases for crates/plans and the answers to them: plans of every kind, and what 001 makes of them (compare/run says how it
 // is built, with a stand-in for `datom`). The check is read off document 01's table (compare/plan_cases.rs), independently of the Rattle;
 // the cost is 001's own wherever it fits a u64 and 001 does not panic, and is summed in 128 bits to know where that is; `next` is
-// 000's own wherever it is not refused. What the smaller calls answer is read off 01, and held to 001 and 000 wherever these do not panic.
+// 000's own wherever it is not refused. The smaller calls are asked of the scans alone, and of each scan by itself, and answered in the same
+// way; a scan's slots, flow and next are read off 01, and held to 001 and 000 wherever these do not panic.
 #[path = "../target/compare/plan.rs"]
 mod plan;
 #[path = "../target/compare/planner.rs"]
@@ -50,13 +51,6 @@ fn weight(scans: &[Scan]) -> Result<u64, Verdict> {
     Ok(cost as u64)
 }
 
-fn cost_text(cost: Result<u64, Verdict>) -> String {
-    match cost {
-        Ok(number) => number.to_string(),
-        Err(fault) => text(fault),
-    }
-}
-
 // 001's check tests a scan's slots against the number of scans: it is held to 01's where no scan names a slot between the two.
 fn agrees_with_001(case: &Case, verdict: Verdict) {
     let slip = case.scans.iter().any(|s| in_order(s).iter().any(|k| (*k < case.slots.len()) != (*k < case.scans.len())));
@@ -82,14 +76,22 @@ fn next_text(case: &Case) -> String {
     format!("{} {}", yes(is_new), index_text(planner.get_plan()))
 }
 
-fn answer(case: &Case) -> String {
-    let verdict = check(case);
-    agrees_with_001(case, verdict);
+// What 001's `cost` says, or what it is refused for.
+fn cost_text(case: &Case) -> String {
     let cost = match flows_fault(case) {
         None => weight(&case.scans).map(|_| rust_plan(case, &[]).cost()),
         fault => Err(fault),
     };
-    format!("check {}, cost {}, next {}", text(verdict), cost_text(cost), next_text(case))
+    match cost {
+        Ok(number) => number.to_string(),
+        Err(fault) => text(fault),
+    }
+}
+
+fn answer(case: &Case) -> String {
+    let verdict = check(case);
+    agrees_with_001(case, verdict);
+    format!("check {}, cost {}, next {}", text(verdict), cost_text(case), next_text(case))
 }
 
 // The scans that a plan's count names: those given and, where it claims more, those that the arrays hold past them.
@@ -99,10 +101,9 @@ fn claimed(case: &Case) -> Vec<Scan> {
     scans
 }
 
-// The next index of a scan's cycle, and whether it is new. Out-out over eavt, which the calls over a plan refuse, stays.
+// The next index of a scan's cycle, and whether it is new. Out-out over eavt has none, and is refused.
 fn next_index(scan: &Scan) -> (usize, bool) {
     let cycle: &[usize] = match (scan.1, scan.0) {
-        (0, 2) => &[2],
         (0, _) => &[0, 1],
         (1, 1) => &[1],
         (1, _) => &[0, 2],
@@ -120,7 +121,7 @@ fn yes(is_new: bool) -> &'static str {
     if is_new { "yes" } else { "no" }
 }
 
-// A scan by itself, held to 001 and 000 where it is not out-out over eavt.
+// A scan by itself, held to 001 and 000 where it is not out-out over eavt; where it is, its next is refused and it stays.
 fn scan_text(scan: &Scan) -> String {
     let slots = in_order(scan);
     let flow = match (scan.1, scan.0) {
@@ -129,8 +130,9 @@ fn scan_text(scan: &Scan) -> String {
         (1, _) => "in-out",
         _ => "in-in",
     };
-    let (index, is_new) = next_index(scan);
+    let (mut eavt, mut said, mut index) = (" over eavt", text(Some((21, 0))), scan.0);
     if !is_out_out_eavt(scan) {
+        let next = next_index(scan);
         let rust = rust_plan(&case(vec![*scan], vec![], vec![]), &[]);
         let by_001 = match rust.scans[0].entity_value_flow() {
             EntityValueFlow::OutOut => "out-out",
@@ -140,29 +142,23 @@ fn scan_text(scan: &Scan) -> String {
         };
         assert_eq!((rust.scans[0].slots()[0].0 as usize, rust.scans[0].slots()[1].0 as usize, by_001), (slots[0], slots[1], flow));
         let mut planner = Planner::damaged(rust);
-        assert_eq!((planner.next(), index_text(planner.get_plan())), (is_new, index.to_string()));
+        assert_eq!((planner.next(), index_text(planner.get_plan())), (next.1, next.0.to_string()));
+        eavt = "";
+        said = yes(next.1).to_string();
+        index = next.0;
     }
-    let eavt = if is_out_out_eavt(scan) { " over eavt" } else { "" };
     let next = format!("scan {} {} {} {} {}", index, scan.1, scan.2, scan.3, scan.4);
-    format!("; slots {} {} {}{} next {} {}", slots[0], slots[1], flow, eavt, yes(is_new), next)
+    format!("; slots {} {} {}{} next {} {}", slots[0], slots[1], flow, eavt, said, next)
 }
 
-// What the smaller calls answer.
-fn parts(case: &Case) -> String {
-    let mut scans = claimed(case);
+// What the smaller calls answer: those over scans are the calls over a plan that has nothing else.
+fn parts(given: &Case) -> String {
+    let scans = claimed(given);
     let each: String = scans.iter().map(scan_text).collect();
-    let cost = cost_text(weight(&scans));
-    let mut is_new = false;
-    for scan in &mut scans {
-        let next = next_index(scan);
-        scan.0 = next.0;
-        is_new = next.1;
-        if is_new {
-            break;
-        }
-    }
-    let (counts, flows) = (text(counts_fault(case)), text(flows_fault(case)));
-    format!("counts {}, flows {}, cost {}, next {} {}{}", counts, flows, cost, yes(is_new), indexes(&scans), each)
+    let mut alone = case(scans, vec![], vec![]);
+    alone.scan_count = given.scan_count;
+    let (counts, flows) = (text(counts_fault(given)), text(flows_fault(given)));
+    format!("counts {}, flows {}, cost {}, next {}{}", counts, flows, cost_text(&alone), next_text(&alone), each)
 }
 
 // Scans from letters: an index (a, v, e), in capitals for a key not used before; a flow (o, i, t: out-out, in-out, in-in).

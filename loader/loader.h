@@ -98,7 +98,7 @@ enum loader_flow { LOADER_OUT_OUT = 0, LOADER_IN_OUT = 1, LOADER_IN_IN = 2 };
 /* A plan. Slot i is variable i; the constants of the query come after, in order. Words past the counts are not looked at;
    loader_plan and loader_search write zeros there. Any words are a plan, and the plan check says whether it is a good one. An index or a flow that is
    none of those above makes a scan out-out over eavt, which is refused, 21. A number of a slot above 65535 counts as 65535, which names
-   no slot: 22 or 26. A slot's first word other than 1 makes it a variable. */
+   no slot: 22 or 26. A slot's first word other than 1 makes it a variable, which a scan must set: 24, 25. */
 struct loader_scan {
     uint64_t index;     /* enum loader_index */
     uint64_t flow;      /* enum loader_flow */
@@ -145,7 +145,7 @@ uint64_t loader_plan(const struct loader_query *query, struct loader_plan *plan,
 uint64_t loader_search(const struct loader_query *query, uint64_t order[LOADER_MAX_SEARCHED], struct loader_plan *plan, struct loader_answer *answer);
 
 /* Step a plan to the next one that answers the same. `first` is 1 where it is new; 0 where all were seen, and the initial plan stands
-   again. The whole plan is written, each word as it was read: one that no plan has becomes what it counts as. Refusals 20, 21. */
+   again. The indexes of the scans that count are written; every other word stays, whatever it says. Refusals 20, 21. */
 uint64_t loader_next(struct loader_plan *plan, struct loader_answer *answer);
 
 /* The plan check. Refusals 20, 13, 21 to 26. */

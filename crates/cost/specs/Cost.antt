@@ -2,6 +2,7 @@
 use Prim.Native.Nat.{ℕ, _+_, _*_, _^_}
 use mathlib.Core.List.{List, [], _∷_, _++_}
 use mathlib.Core.Bool.{Bool, true, false, _&&_, _||_}
+use lib.ListN.{take}
 use lib.Dec.{leb, eqb}
 use Rattle.refusal.specs.declared.Verdict.{Verdict}
 use Rattle.refusal.specs.declared.Verdict.the-variants.{Fine}
@@ -12,7 +13,7 @@ use Rattle.plan.specs.declared.Index.{Index}
 use Rattle.plan.specs.declared.Index.the-variants.{Aevt, Avet, Eavt}
 use Rattle.plan.specs.declared.Flow.{Flow}
 use Rattle.plan.specs.declared.Flow.the-variants.{OutOut, InOut, InIn}
-use Rattle.plan.specs.Plan.{scansOf, flowsFault}
+use Rattle.plan.specs.Plan.{scansOf, scanFlowsFault, flowsFault}
 use Rattle.cost.specs.declared.Costed.{Costed}
 
 abbrev pub sameIndex : Index → Index → Bool
@@ -84,6 +85,10 @@ weighed v n = unless v (λ r. record { verdict = r; cost = 0 }) (record { verdic
 
 unfoldable pub weighedFrom : List Scan → List Scan → ℕ → Costed
 weighedFrom before ss i = weighed (weightFault before ss i) (weight before ss)
+
+-- the cost of an array of scans of which so many count: 20, then 21 at the lowest such scan, then 27
+unfoldable pub costOfScans : List Scan → ℕ → Costed
+costOfScans scans k = weighed (orElse (scanFlowsFault scans k) (weightFault [] (take k scans) 0)) (weight [] (take k scans))
 
 -- the cost of a plan: 20, then 21 at the lowest such scan, then 27
 unfoldable pub costOf : Plan → Costed

@@ -20,7 +20,7 @@ ghost use mathlib.Core.List.{[]};
 ghost use mathlib.Core.Bool.{_||_};
 ghost use lib.ListN.{take};
 ghost use Rattle.capacity.specs.Capacity.{maxScans};
-ghost use Rattle.cost.specs.Cost.{sameIndex, sameKey, penaltyFor, itersOf, weighedFrom, costOf};
+ghost use Rattle.cost.specs.Cost.{sameIndex, sameKey, penaltyFor, itersOf, weighedFrom, costOfScans, costOf};
 ghost use Rattle.cost.specs.Seen.{seenWith};
 
 // The answer of `cost`: 0 where it is refused.
@@ -35,20 +35,22 @@ const LARGEST: u64 = 18446744073709551615;
 pub fn cost(plan: Plan) -> Costed
     ensures { λ r. ⌜ r ≡ costOf plan ⌝ }
 {
-    let verdict = plan::check_flows(plan);
+    let scan_count = plan.scan_count;
+    let verdict = plan::check_counts(scan_count, plan.slot_count, plan.select_count);
     if let Verdict::Refused(_) = verdict {
         return Costed { verdict, cost: 0 };
     }
     let scans = plan.scans;
-    cost_of_scans(scans, plan.scan_count)
+    cost_of_scans(scans, scan_count)
 }
 
-// The cost of the scans that count. A count past the array is that of all of it.
+// The cost of the scans that count, without a plan.
 pub fn cost_of_scans(scans: [Scan; MAX_SCANS], scan_count: usize) -> Costed
-    ensures { λ r. ⌜ r ≡ weighedFrom [] (take «scan_count» scans) 0 ⌝ }
+    ensures { λ r. ⌜ r ≡ costOfScans scans «scan_count» ⌝ }
 {
-    if MAX_SCANS < scan_count {
-        return weigh_scans(scans, MAX_SCANS);
+    let verdict = plan::check_scan_flows(scans, scan_count);
+    if let Verdict::Refused(_) = verdict {
+        return Costed { verdict, cost: 0 };
     }
     weigh_scans(scans, scan_count)
 }

@@ -1,21 +1,46 @@
 -- `next` goes through the plans listed and back to the initial one: what `Listed` says of scans, of the plans that have them.
-use mathlib.Core.Path.{_≡_, refl, _∙_}
+use mathlib.Core.Path.{_≡_, refl, ap, _∙_}
 use Prim.Native.Nat.{ℕ, suc, _+_, _≤_, _<_}
-use mathlib.Core.List.{List, []}
-use mathlib.Core.Bool.{true, false}
+use mathlib.Core.List.{List, [], _∷_, append-nil}
+use mathlib.Core.Bool.{Bool, true, false, cond}
 use native.Mathlib.Omega.{arith}
-use lib.ListN.{length, getD, drop, take-append-drop}
-use lib.Seq.{drop-at}
+use borrow.Author.Tests.{ltb-true, ltb-false}
+use lib.ListN.{length, getD, drop, take-append-drop, drop-of-length-le}
+use lib.Seq.{drop-at, take-at, take-all, length-take-le}
+use lib.Dec.{ltb}
 use Rattle.refusal.specs.declared.Verdict.the-variants.{Fine}
 use Rattle.refusal.proofs.Fine.{or-fine}
 use Rattle.plan.specs.declared.Scan.{Scan}
 use Rattle.plan.specs.declared.Plan.{Plan}
 use Rattle.plan.specs.Plan.{scansOf, countsFault, outOutFault, flowsFault}
-use Rattle.listing.specs.Next.{nextScans, isNewScans, withScans, nextOf}
+use Rattle.listing.specs.Next.{isNewIndex, nextScans, isNewScans, withScans, nextOf}
 use Rattle.listing.specs.Listing.{combinations, Initial}
 use Rattle.listing.proofs.Listed.{listed}
 use Rattle.listing.proofs.SameAccesses.{SameScans, none, more}
 use Rattle.listing.proofs.Passes.{same-accesses, same-count, same-scans}
+
+-- stepped scans are as many as before, and a plan that is given as many others has these
+pub next-length : (l : List Scan) → length (nextScans l) ≡ length l
+unfolding nextScans
+next-length [] = refl
+next-length (s ∷ l) = ap suc (go (isNewIndex (s .flow) (s .index)) (next-length l))
+  where
+    go : (t : Bool) → length (nextScans l) ≡ length l → length (cond t l (nextScans l)) ≡ length l
+    go true e = refl
+    go false e = e
+
+pub with-scans : (p : Plan) (l : List Scan) → length l ≡ length (scansOf p) → scansOf (withScans p l) ≡ l
+with-scans p l e = go (ltb (length (p .scans)) (p .«scan_count»)) refl
+  where
+    go : (t : Bool) → ltb (length (p .scans)) (p .«scan_count») ≡ t → scansOf (withScans p l) ≡ l
+    go true h =
+        let m : length (p .scans) < p .«scan_count» = ltb-true _ _ h in
+        let n : length (p .scans) ≤ p .«scan_count» = omega arith in
+        let all = take-all (p .«scan_count») (p .scans) n in
+        rw (drop-of-length-le (p .scans) n, append-nil l) (take-all (p .«scan_count») l (omega (arith, e, ap length all)))
+    go false h =
+        let n = p .«scan_count» in
+        take-at l (drop n (p .scans)) n (e ∙ length-take-le n (p .scans) (ltb-false _ _ h))
 
 -- plan t of those listed
 abbrev pub planAt : Plan → ℕ → Plan

@@ -1,18 +1,13 @@
--- No second answer fits the promises of `next_scan`, `next_scans` and `next`.
+-- No second answer fits the promises of `next_scans` and `next`.
 use mathlib.Core.Path.{_≡_}
 use Prim.Native.Nat.{ℕ}
 use mathlib.Core.List.{List}
 use Rattle.refusal.proofs.OneAnswer.{one-answer}
 use Rattle.plan.specs.declared.Scan.{Scan}
 use Rattle.plan.specs.declared.Plan.{Plan}
-use Rattle.listing.specs.declared.NextScan.{NextScan}
 use Rattle.listing.specs.declared.NextScans.{NextScans}
 use Rattle.listing.specs.declared.NextPlan.{NextPlan}
-use Rattle.listing.specs.Next.{isNewIndex, nextScan, nextOfScans, nextOf}
-
-pub next-scan-one : (s : Scan) (r r′ : NextScan) → r ≡ record { scan = nextScan s; «is_new» = isNewIndex (s .flow) (s .index) }
-    → r′ ≡ record { scan = nextScan s; «is_new» = isNewIndex (s .flow) (s .index) } → r ≡ r′
-next-scan-one s r r′ = one-answer
+use Rattle.listing.specs.Next.{nextOfScans, nextOf}
 
 pub next-scans-one : (l : List Scan) (k : ℕ) (r r′ : NextScans) → r ≡ nextOfScans l k → r′ ≡ nextOfScans l k → r ≡ r′
 next-scans-one l k r r′ = one-answer

@@ -8,21 +8,23 @@ use native.Mathlib.Omega.{arith}
 use lib.ListN.{length, getD, take, drop, set, take-append-drop}
 use lib.Seq.{length-take-le, append-snoc, drop-append-le, take-suc-set, take-set-lt, drop-set-lt, set-split}
 use Rattle.lists.proofs.Walk.{walk-step, walk-end}
+use Rattle.refusal.specs.declared.Verdict.the-variants.{Fine}
 use Rattle.plan.specs.declared.Scan.{Scan}
 use Rattle.plan.specs.Plan.{zeroScan}
 use Rattle.listing.specs.declared.NextScan.{NextScan}
 use Rattle.listing.specs.declared.NextScans.{NextScans}
-use Rattle.listing.specs.Next.{isNewIndex, nextScan, nextScans, isNewScans}
+use Rattle.listing.specs.Next.{isNewIndex, nextScan, nextScans, isNewScans, stepped}
 
 -- the answer where the first i scans of an array, of which k count, have been stepped
 unfoldable pub steppedFrom : ℕ → List Scan → ℕ → NextScans
 steppedFrom k l i = record {
-  scans = take i l ++ (nextScans (drop i (take k l)) ++ drop k l);
+  verdict = Fine;
   «is_new» = isNewScans (drop i (take k l));
+  scans = take i l ++ (nextScans (drop i (take k l)) ++ drop k l);
 }
 
 -- nothing has been stepped
-pub step-start : (k : ℕ) (l : List Scan) → record { scans = nextScans (take k l) ++ drop k l; «is_new» = isNewScans (take k l) } ≡ steppedFrom k l 0
+pub step-start : (k : ℕ) (l : List Scan) → stepped l k ≡ steppedFrom k l 0
 unfolding steppedFrom
 step-start k l = refl
 
@@ -36,7 +38,7 @@ module _ (k : ℕ) (l : List Scan) (fits : k ≤ length l) where
   module _ (i : ℕ) (h : i < k) (r : NextScan)
       (e : r ≡ record { scan = nextScan (getD l i zeroScan); «is_new» = isNewIndex (getD l i zeroScan .flow) (getD l i zeroScan .index) }) where
     -- scan i is new, and the scans after it stay
-    pub step-new : r .«is_new» ≡ true → steppedFrom k l i ≡ record { scans = set l i (r .scan); «is_new» = true }
+    pub step-new : r .«is_new» ≡ true → steppedFrom k l i ≡ record { verdict = Fine; «is_new» = true; scans = set l i (r .scan) }
     unfolding steppedFrom nextScans isNewScans
     step-new t =
         let n : i < length l = omega arith in
@@ -53,7 +55,7 @@ module _ (k : ℕ) (l : List Scan) (fits : k ≤ length l) where
         rw e (simp (walk-step l k fits zeroScan i h, rw e at t, add-one, take-suc-set l i v n, take-set-lt k l i v h, drop-set-lt k l i v h, drop-set-lt (suc i) (take k l) i v m, append-snoc))
 
   -- every scan has been stepped
-  pub step-end : (i : ℕ) → i ≤ k → k ≤ i → steppedFrom k l i ≡ record { scans = l; «is_new» = false }
+  pub step-end : (i : ℕ) → i ≤ k → k ≤ i → steppedFrom k l i ≡ record { verdict = Fine; «is_new» = false; scans = l }
   unfolding steppedFrom nextScans isNewScans
   step-end i h g =
       let e : i ≡ k = omega arith in

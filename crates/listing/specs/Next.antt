@@ -11,7 +11,7 @@ use Rattle.plan.specs.declared.Index.{Index}
 use Rattle.plan.specs.declared.Index.the-variants.{Aevt, Avet, Eavt}
 use Rattle.plan.specs.declared.Flow.{Flow}
 use Rattle.plan.specs.declared.Flow.the-variants.{OutOut, InOut, InIn}
-use Rattle.plan.specs.Plan.{scansOf, flowsFault}
+use Rattle.plan.specs.Plan.{scansOf, scanFlowsFault, flowsFault}
 use Rattle.listing.specs.declared.NextPlan.{NextPlan}
 use Rattle.listing.specs.declared.NextScans.{NextScans}
 
@@ -53,8 +53,12 @@ isNewScans [] = false
 isNewScans (s ∷ ss) = cond (isNewIndex (s .flow) (s .index)) true (isNewScans ss)
 
 -- an array of scans of which so many count, stepped; the places past them stay as they are
-abbrev pub nextOfScans : List Scan → ℕ → NextScans
-nextOfScans scans k = record { scans = nextScans (take k scans) ++ drop k scans; «is_new» = isNewScans (take k scans) }
+abbrev pub stepped : List Scan → ℕ → NextScans
+stepped scans k = record { verdict = Fine; «is_new» = isNewScans (take k scans); scans = nextScans (take k scans) ++ drop k scans }
+
+-- what `next` answers of scans without a plan; where it refuses (20, then 21 at the lowest such scan), no, and the scans as they were given
+unfoldable pub nextOfScans : List Scan → ℕ → NextScans
+nextOfScans scans k = unless (scanFlowsFault scans k) (λ v. record { verdict = v; «is_new» = false; scans = scans }) (stepped scans k)
 
 -- a plan with other scans below its count; the places past it stay as they are
 abbrev pub withScans : Plan → List Scan → Plan

@@ -14,9 +14,9 @@ use plan::Plan;
 use plan::Scan;
 use refusal::Verdict;
 ghost use mathlib.Core.Path.{_≡_};
-ghost use Prim.Native.Nat.{_≤_, min};
+ghost use Prim.Native.Nat.{_≤_};
 ghost use Rattle.capacity.specs.Capacity.{maxScans};
-ghost use Rattle.listing.specs.Next.{nextIndex, isNewIndex, nextScan, nextOfScans, nextOf};
+ghost use Rattle.listing.specs.Next.{nextIndex, isNewIndex, nextScan, stepped, nextOfScans, nextOf};
 
 // The answer of `next`: whether it is new, and the plan; where it is refused, the plan as it was given.
 pub struct NextPlan {
@@ -25,16 +25,17 @@ pub struct NextPlan {
     pub plan: Plan,
 }
 
-// The answer of `next_scan`: the scan, and whether it is new.
-pub struct NextScan {
-    pub scan: Scan,
-    pub is_new: bool,
-}
-
-// The same for the scans of a plan.
+// The same for scans without a plan. They stand in front: behind a bool the compiler copies them twice more for each plan searched.
 pub struct NextScans {
     pub scans: [Scan; MAX_SCANS],
     pub is_new: bool,
+    pub verdict: Verdict,
+}
+
+// The answer of `next_scan`: the scan, and whether it is new.
+struct NextScan {
+    scan: Scan,
+    is_new: bool,
 }
 
 // Advance to the next alternative of the plan.
@@ -43,47 +44,47 @@ pub struct NextScans {
 pub fn next(plan: Plan) -> NextPlan
     ensures { λ r. ⌜ r ≡ nextOf plan ⌝ }
 {
-    let verdict = plan::check_flows(plan);
-    if let Verdict::Refused(_) = verdict {
+    let scan_count = plan.scan_count;
+    let counts = plan::check_counts(scan_count, plan.slot_count, plan.select_count);
+    if let Verdict::Refused(_) = counts {
         return NextPlan {
-            verdict,
+            verdict: counts,
             is_new: false,
             plan,
         };
     }
     let scans = plan.scans;
-    let stepped = next_scans(scans, plan.scan_count);
+    let stepped = next_scans(scans, scan_count);
+    let verdict = stepped.verdict;
     let advanced = stepped.scans;
     let mut next_plan = plan;
     next_plan.scans = advanced;
     NextPlan {
-        verdict: Verdict::Fine,
+        verdict,
         is_new: stepped.is_new,
         plan: next_plan,
     }
 }
 
-// Advance the scans that count, up to the first that is new; the others stay as they are. A count past the array is that of all
-// of it.
+// The same for the scans that count, without a plan. Where it is refused, the scans as they were given.
 pub fn next_scans(scans: [Scan; MAX_SCANS], scan_count: usize) -> NextScans
     ensures { λ r. ⌜ r ≡ nextOfScans scans «scan_count» ⌝ }
 {
-    let count = within(scan_count);
-    advance_scans(scans, count)
-}
-
-fn within(count: usize) -> usize
-    ensures { λ r. ⌜ r ≡ min count maxScans ⌝ }
-{
-    if MAX_SCANS < count {
-        return MAX_SCANS;
+    let verdict = plan::check_scan_flows(scans, scan_count);
+    if let Verdict::Refused(_) = verdict {
+        return NextScans {
+            verdict,
+            is_new: false,
+            scans,
+        };
     }
-    count
+    advance_scans(scans, scan_count)
 }
 
+// Advance the scans that count, up to the first that is new; the others stay as they are.
 fn advance_scans(scans: [Scan; MAX_SCANS], scan_count: usize) -> NextScans
     requires { ⌜ «scan_count» ≤ maxScans ⌝ }
-    ensures { λ r. ⌜ r ≡ nextOfScans scans «scan_count» ⌝ }
+    ensures { λ r. ⌜ r ≡ stepped scans «scan_count» ⌝ }
 {
     let mut scans = scans;
     let mut i_scan = 0;
@@ -95,8 +96,9 @@ fn advance_scans(scans: [Scan; MAX_SCANS], scan_count: usize) -> NextScans
         if next.is_new {
             // The altered scan is one that we had not seen before. Therefore, the plan is also a new one. Return that.
             return NextScans {
-                scans,
+                verdict: Verdict::Fine,
                 is_new: true,
+                scans,
             };
         }
 
@@ -108,15 +110,16 @@ fn advance_scans(scans: [Scan; MAX_SCANS], scan_count: usize) -> NextScans
     // If we ended up here, we tried incrementing every scan, but all of them cycled back to the initial one, which means we
     // have exhausted all options.
     NextScans {
-        scans,
+        verdict: Verdict::Fine,
         is_new: false,
+        scans,
     }
 }
 
 // A different scan that fills the same slots.
 //
 // Says yes when incremented to a new scan in the cycle, and no when we cycled back to the initial scan.
-pub fn next_scan(scan: Scan) -> NextScan
+fn next_scan(scan: Scan) -> NextScan
     ensures { λ r. ⌜ r ≡ record { scan = nextScan scan; «is_new» = isNewIndex (scan .flow) (scan .index) } ⌝ }
 {
     let flow = scan.flow;

@@ -1,11 +1,15 @@
 -- An array that is filled from the front with f 0, f 1 and so on.
-use mathlib.Core.Path.{_≡_, refl, sym, _∙_}
+use mathlib.Core.Path.{_≡_, refl, sym, ap, _∙_}
 use Prim.Native.Nat.{ℕ, zero, suc, _+_, _<_, _≤_}
 use mathlib.Core.List.{List, [], _∷_, _++_}
+use mathlib.Core.Bool.{Bool, true, false}
 use native.Mathlib.Numerals.{add-one}
 use native.Mathlib.Omega.{arith}
-use lib.ListN.{length, getD, set, take, replicate, length-append}
-use lib.Seq.{take-suc, take-suc-set, take-all}
+use native.Mathlib.Nat.{not-suc-le-zero}
+use borrow.Author.Tests.{ltb-true, ltb-false}
+use lib.ListN.{length, getD, set, take, replicate, length-append, List·getD-append}
+use lib.Seq.{take-suc, take-suc-set, take-all, getD-append-add}
+use lib.Dec.{ltb}
 use Rattle.lists.specs.Padded.{padded}
 use Rattle.lists.specs.Tabled.{tabled}
 use Rattle.lists.proofs.Padded.{padded-more, padded-none}
@@ -28,6 +32,22 @@ module _ {A : Type 0} (f : ℕ → A) where
   unfolding tabled
   tabled-length zero = refl
   tabled-length (suc n) = length-append (tabled f n) _ ∙ rw (tabled-length n) (omega arith)
+
+  -- an element
+  pub tabled-at : (n i : ℕ) (d : A) → i < n → getD (tabled f n) i d ≡ f i
+  unfolding tabled
+  tabled-at zero i d h = absurd (not-suc-le-zero h)
+  tabled-at (suc n) i d h = go (ltb i n) refl (tabled-at n i d)
+    where
+      go : (t : Bool) → ltb i n ≡ t → (i < n → getD (tabled f n) i d ≡ f i) → getD (tabled f n ++ (f n ∷ [])) i d ≡ f i
+      go true e before =
+          let m : i < n = ltb-true _ _ e in
+          List·getD-append (tabled f n) (f n ∷ []) d i (rw (tabled-length n) m) ∙ before m
+      go false e before =
+          let m : n ≤ i = ltb-false _ _ e in
+          let last : i ≡ length (tabled f n) + 0 = rw (tabled-length n) (omega arith) in
+          let this : n ≡ i = omega arith in
+          ap (λ (j : ℕ). getD (tabled f n ++ (f n ∷ [])) j d) last ∙ getD-append-add (tabled f n) (f n ∷ []) 0 d ∙ ap f this
 
   -- the same with others behind
   pub tabled-padded-none : (z : A) (n : ℕ) → replicate n z ≡ padded z n (tabled f 0)

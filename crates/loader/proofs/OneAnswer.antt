@@ -14,7 +14,7 @@ use Rattle.eval.specs.Evaluation.{evaluateOf, bufferAfter}
 use Rattle.plan_names.specs.Names.{selectNameFault}
 use Rattle.plan_text.specs.Answer.{formattedOf, bufferAfter as textAfter}
 use Rattle.words.specs.Words.{planOfWords}
-use Rattle.loader.specs.Answers.{numberOf, answerOf, bit, planAfter, orderAfter, stateAfter, swapAfter, plannedOf, foundOf, steppedOf, swappedOf, evaluatedWords, formattedWords, nameWords}
+use Rattle.loader.specs.Answers.{numberOf, answerOf, bit, planAfter, steppedAfter, orderAfter, stateAfter, swapAfter, plannedOf, foundOf, steppedOf, swappedOf, evaluatedWords, formattedWords, nameWords}
 
 -- a call returns r and leaves a in its answer; and b in a buffer; and c in another
 abbrev Answers : ℕ → List ℕ → ℕ → List ℕ → Type 0
@@ -66,7 +66,7 @@ module _ (r r′ : ℕ) (a a′ : List ℕ) where
 
     pub loader-next-one : (plan : List ℕ) →
         let stepped = steppedOf plan in
-        let says = Writes (numberOf (stepped .verdict)) (answerOf (stepped .verdict) (bit (stepped .«is_new»)) 0) (planAfter (stepped .verdict) (stepped .plan) plan) in
+        let says = Writes (numberOf (stepped .verdict)) (answerOf (stepped .verdict) (bit (stepped .«is_new»)) 0) (steppedAfter stepped plan) in
         says r a b → says r′ a′ b′ → (r ≡ r′) × (a ≡ a′) × (b ≡ b′)
     loader-next-one plan = writes-one _ _ _ r r′ a a′ b b′
 

@@ -7,13 +7,14 @@ use Rattle.refusal.specs.declared.Verdict.{Verdict}
 use Rattle.refusal.specs.declared.Verdict.the-variants.{Fine, Refused}
 use Rattle.refusal.specs.Verdict.{unless}
 use Rattle.plan.specs.declared.Plan.{Plan}
+use Rattle.plan.specs.Plan.{scansOf}
 use Rattle.permutation.specs.declared.Permutations.{Permutations}
 use Rattle.permutation.specs.declared.Swap.{Swap}
 use Rattle.permutation.specs.declared.Step.{Step}
 use Rattle.permutation.specs.Swaps.{nextOf as stepOf}
 use Rattle.swap_words.specs.State.{stateOfWords, wordsOfState}
 use Rattle.words.specs.Words.{planOfWords, queryOfWords}
-use Rattle.plan_words.specs.Write.{wordsOfPlan}
+use Rattle.plan_words.specs.Write.{wordsOfPlan, withIndexes}
 use Rattle.planner.specs.declared.Planned.{Planned}
 use Rattle.planner.specs.Planning.{planOf}
 use Rattle.search.specs.declared.Found.{Found}
@@ -45,6 +46,10 @@ bit false = 0
 -- the plan's words, or where it is refused what was there
 abbrev pub planAfter : Verdict → Plan → List ℕ → List ℕ
 planAfter v p before = unless v (λ _. before) (wordsOfPlan p)
+
+-- a plan's words after a step: the index words of the scans that count are those of the stepped scans, every other word is as it was
+abbrev pub steppedAfter : NextPlan → List ℕ → List ℕ
+steppedAfter n before = unless (n .verdict) (λ _. before) (withIndexes (scansOf (n .plan)) 0 before)
 
 -- the order, in the same way
 abbrev pub orderAfter : Verdict → List ℕ → List ℕ → List ℕ

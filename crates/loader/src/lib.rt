@@ -21,7 +21,7 @@ ghost use Rattle.plan_names.specs.Names.{selectNameFault};
 ghost use Rattle.plan_text.specs.Answer.{formattedOf, bufferAfter as textAfter};
 ghost use Rattle.permutation.specs.Swaps.{freshOf};
 ghost use Rattle.words.specs.Words.{planOfWords};
-ghost use Rattle.loader.specs.Answers.{numberOf, placeOf, answerOf, bit, planAfter, orderAfter, stateAfter, swapAfter, plannedOf, foundOf, steppedOf, swappedOf, evaluatedWords, formattedWords, nameWords};
+ghost use Rattle.loader.specs.Answers.{numberOf, placeOf, answerOf, bit, planAfter, steppedAfter, orderAfter, stateAfter, swapAfter, plannedOf, foundOf, steppedOf, swappedOf, evaluatedWords, formattedWords, nameWords};
 
 // Where each part of an answer stands, and how many words it has.
 const ANSWER_NUMBER: usize = 0;
@@ -85,12 +85,13 @@ pub extern "C" fn loader_search(
     0
 }
 
-// Step a plan to the next one. Answers 1 where it is new, and 0 where the initial plan stands again. Refusals 20, 21.
+// Step a plan to the next one. Answers 1 where it is new, and 0 where the initial plan stands again. Only the indexes of the scans that
+// count are written. Refusals 20, 21.
 #[no_mangle]
 pub extern "C" fn loader_next(plan: &mut [u64; PLAN_WORDS], answer: &mut [u64; ANSWER_WORDS]) -> u64
     ensures { λ r. ⌜ r ≡ numberOf (steppedOf (now (plan .entry)) .verdict) ⌝ }
     ensures { λ r. ⌜ now (answer .exit) ≡ answerOf (steppedOf (now (plan .entry)) .verdict) (bit (steppedOf (now (plan .entry)) .«is_new»)) 0 ⌝ }
-    ensures { λ r. ⌜ now (plan .exit) ≡ planAfter (steppedOf (now (plan .entry)) .verdict) (steppedOf (now (plan .entry)) .plan) (now (plan .entry)) ⌝ }
+    ensures { λ r. ⌜ now (plan .exit) ≡ steppedAfter (steppedOf (now (plan .entry))) (now (plan .entry)) ⌝ }
 {
     let stepped = listing::next(words::read_plan(plan));
     let verdict = stepped.verdict;
@@ -99,7 +100,8 @@ pub extern "C" fn loader_next(plan: &mut [u64; PLAN_WORDS], answer: &mut [u64; A
         return number_of(verdict);
     }
     let next = stepped.plan;
-    *plan = plan_words::words_of_plan(next);
+    let scans = next.scans;
+    plan_words::write_indexes(scans, next.scan_count, plan);
     0
 }
 

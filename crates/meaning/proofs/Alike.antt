@@ -1,6 +1,6 @@
 -- 01, "How a query becomes a plan": two plans are equal if their counts and what lies below these agree. Equal plans get equal answers:
 -- nothing past the counts is looked at. (The text and names: plan_text, `text-alike`.)
-use mathlib.Core.Path.{_≡_, refl}
+use mathlib.Core.Path.{_≡_, refl, sym, ap, _∙_}
 use Prim.Native.Nat.{ℕ}
 use mathlib.Core.Bool.{Bool, false}
 use mathlib.Core.List.{List}
@@ -14,6 +14,7 @@ use Rattle.plan_check.specs.Check.{checkOf}
 use Rattle.cost.specs.Cost.{costOf}
 use Rattle.listing.specs.declared.NextPlan.{NextPlan}
 use Rattle.listing.specs.Next.{nextScans, isNewScans, withScans, nextOf}
+use Rattle.listing.proofs.NextLists.{next-length, with-scans}
 use Rattle.visits.specs.Visits.{Tables, rowList}
 use Rattle.eval.specs.Evaluation.{evaluationFault, evaluateOf, bufferAfter}
 
@@ -30,16 +31,31 @@ module _ (p q : Plan) (e : SamePlan p q) where
   unfolding costOf
   cost-alike = rw (flows-alike, e .scans)
 
-  pub next-alike : (nextOf p .verdict ≡ nextOf q .verdict) × (nextOf p .«is_new» ≡ nextOf q .«is_new»)
+  -- the two with the scans of the one stepped
+  stepped-alike : let l = nextScans (scansOf q) in SamePlan (withScans p l) (withScans q l)
+  stepped-alike =
+      let l = nextScans (scansOf q) in
+      let long = next-length (scansOf q) in
+      record {
+        scan-counts = e .scan-counts;
+        slot-counts = e .slot-counts;
+        select-counts = e .select-counts;
+        scans = with-scans p l (long ∙ sym (ap length (e .scans))) ∙ sym (with-scans q l long);
+        slots = e .slots;
+        selects = e .selects;
+      }
+
+  pub next-alike : (nextOf p .verdict ≡ nextOf q .verdict) × (nextOf p .«is_new» ≡ nextOf q .«is_new») × SamePlan (nextOf p .plan) (nextOf q .plan)
   unfolding nextOf
-  next-alike = rw (flows-alike, e .scans) (go (flowsFault q) (isNewScans (scansOf q)) p q (withScans p (nextScans (scansOf q))) (withScans q (nextScans (scansOf q))))
+  next-alike = rw (flows-alike, e .scans) (go (flowsFault q) (isNewScans (scansOf q)) p q _ _ e stepped-alike)
     where
       stepped : Verdict → Bool → Plan → Plan → NextPlan
       stepped v n a b = unless v (λ r. record { verdict = r; «is_new» = false; plan = a }) (record { verdict = Fine; «is_new» = n; plan = b })
 
-      go : (v : Verdict) (n : Bool) (a b c d : Plan) → (stepped v n a c .verdict ≡ stepped v n b d .verdict) × (stepped v n a c .«is_new» ≡ stepped v n b d .«is_new»)
-      go Fine n a b c d = (refl, refl)
-      go (Refused r) n a b c d = (refl, refl)
+      go : (v : Verdict) (n : Bool) (a b c d : Plan) → SamePlan a b → SamePlan c d
+          → (stepped v n a c .verdict ≡ stepped v n b d .verdict) × (stepped v n a c .«is_new» ≡ stepped v n b d .«is_new») × SamePlan (stepped v n a c .plan) (stepped v n b d .plan)
+      go Fine n a b c d given after = (refl, refl, after)
+      go (Refused r) n a b c d given after = (refl, refl, given)
 
   pub rows-alike : (ts : Tables) → rowList p ts ≡ rowList q ts
   unfolding rowList

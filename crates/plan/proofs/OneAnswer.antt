@@ -9,7 +9,7 @@ use Rattle.plan.specs.declared.Slot.{Slot}
 use Rattle.plan.specs.declared.Scan.{Scan}
 use Rattle.plan.specs.declared.Plan.{Plan}
 use Rattle.plan.specs.declared.EntityValueFlow.{EntityValueFlow}
-use Rattle.plan.specs.Plan.{slotsInOrder, entityValueFlow, outOutEavt, emptyPlan, countsFault, flowsFault}
+use Rattle.plan.specs.Plan.{slotsInOrder, entityValueFlow, outOutEavt, emptyPlan, countsFault, scanFlowsFault, flowsFault}
 
 pub slots-one : (s : Scan) (r r′ : List Slot) → r ≡ slotsInOrder s → r′ ≡ slotsInOrder s → r ≡ r′
 slots-one s r r′ = one-answer
@@ -25,6 +25,9 @@ empty-one r r′ = one-answer
 
 pub counts-one : (k n m : ℕ) (r r′ : Verdict) → r ≡ countsFault k n m → r′ ≡ countsFault k n m → r ≡ r′
 counts-one k n m r r′ = one-answer
+
+pub scan-flows-one : (l : List Scan) (k : ℕ) (r r′ : Verdict) → r ≡ scanFlowsFault l k → r′ ≡ scanFlowsFault l k → r ≡ r′
+scan-flows-one l k r r′ = one-answer
 
 pub flows-one : (p : Plan) (r r′ : Verdict) → r ≡ flowsFault p → r′ ≡ flowsFault p → r ≡ r′
 flows-one p r r′ = one-answer

@@ -126,6 +126,10 @@ unfoldable pub outOutFault : List Scan → ℕ → Verdict
 outOutFault [] i = Fine
 outOutFault (s ∷ ss) i = orElse (refuseIf (outOutEavt (s .flow) (s .index)) 21 i) (outOutFault ss (i + 1))
 
--- cost and `next`: only 20, then 21 at the lowest such scan
+-- cost and `next` of an array of scans of which so many count: 20 where that is over 48, then 21 at the lowest such scan
+unfoldable pub scanFlowsFault : List Scan → ℕ → Verdict
+scanFlowsFault scans k = orElse (refuseIf (ltb maxScans k) 20 0) (outOutFault (take k scans) 0)
+
+-- cost and `next` of a plan: only 20, then 21 at the lowest such scan. `flows-agree`: its counts' fault, else that of its scans
 unfoldable pub flowsFault : Plan → Verdict
 flowsFault p = orElse (countsFault (p .«scan_count») (p .«slot_count») (p .«select_count»)) (outOutFault (scansOf p) 0)

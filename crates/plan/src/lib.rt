@@ -19,7 +19,7 @@ ghost use mathlib.Core.Path.{_≡_};
 ghost use Prim.Native.Nat.{_≤_};
 ghost use lib.ListN.{take};
 ghost use Rattle.capacity.specs.Capacity.{maxScans};
-ghost use Rattle.plan.specs.Plan.{slotsInOrder, outOutEavt, entityValueFlow, emptyPlan, countsFault, outOutFault, flowsFault};
+ghost use Rattle.plan.specs.Plan.{slotsInOrder, outOutEavt, entityValueFlow, emptyPlan, countsFault, outOutFault, scanFlowsFault, flowsFault};
 
 // The index of a slot.
 //
@@ -234,6 +234,16 @@ pub fn check_flows(plan: Plan) -> Verdict
         return counts;
     }
     let scans = plan.scans;
+    check_scan_flows(scans, scan_count)
+}
+
+// The same of scans without a plan, of which so many count.
+pub fn check_scan_flows(scans: [Scan; MAX_SCANS], scan_count: usize) -> Verdict
+    ensures { λ r. ⌜ r ≡ scanFlowsFault scans «scan_count» ⌝ }
+{
+    if MAX_SCANS < scan_count {
+        return refuse(refusal::PLAN_COUNTS, 0);
+    }
     check_out_out(scans, scan_count)
 }
 

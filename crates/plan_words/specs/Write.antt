@@ -1,7 +1,7 @@
--- How a plan is written as words: the other way round of Words.antt.
-use Prim.Native.Nat.{ℕ, _+_}
+-- How a plan is written as words: the other way round of Words.antt. And how a step of its scans is written: by their index words alone.
+use Prim.Native.Nat.{ℕ, _+_, _*_}
 use mathlib.Core.List.{List, [], _∷_, _++_}
-use lib.ListN.{length, take, drop}
+use lib.ListN.{length, take, drop, set}
 use Rattle.plan.specs.declared.Slot.{Slot}
 use Rattle.plan.specs.declared.Scan.{Scan}
 use Rattle.plan.specs.declared.SlotRecord.{SlotRecord}
@@ -12,6 +12,7 @@ use Rattle.plan.specs.declared.Index.{Index}
 use Rattle.plan.specs.declared.Index.the-variants.{Aevt, Avet, Eavt}
 use Rattle.plan.specs.declared.Flow.{Flow}
 use Rattle.plan.specs.declared.Flow.the-variants.{OutOut, InOut, InIn}
+use Rattle.words.specs.Words.{scansAt, scanWords}
 
 -- the words of an index, a flow, a scan, a slot, a select
 abbrev pub indexWord : Index → ℕ
@@ -56,3 +57,12 @@ wordsOfPlan p = countWords p ++ laid wordsOfScan (p .scans) ++ laid wordsOfSlot 
 -- words put over those from a place on
 abbrev pub putAt : ℕ → List ℕ → List ℕ → List ℕ
 putAt at new ws = take at ws ++ new ++ drop (at + length new) ws
+
+-- where the index word of scan i stands
+abbrev pub indexAt : ℕ → ℕ
+indexAt i = scansAt + scanWords * i
+
+-- words with the indexes of these scans put over those of the scans from number i on; every other word as it was
+unfoldable pub withIndexes : List Scan → ℕ → List ℕ → List ℕ
+withIndexes [] i ws = ws
+withIndexes (s ∷ ss) i ws = withIndexes ss (i + 1) (set ws (indexAt i) (indexWord (s .index)))

@@ -1,4 +1,4 @@
-// A plan written as words, as crate `words` reads it.
+// A plan written as words, as crate `words` reads it; and of a plan that was stepped, the words that a step changes.
 use capacity::MAX_SCANS;
 use capacity::MAX_SELECTS;
 use capacity::MAX_SLOTS;
@@ -25,9 +25,9 @@ use words::SLOT_WORDS;
 use words::SLOTS_AT;
 ghost use mathlib.Core.Path.{_≡_};
 ghost use Prim.Native.Nat.{_+_, _≤_};
-ghost use lib.ListN.{length};
+ghost use lib.ListN.{length, take};
 ghost use Rattle.words.specs.Words.{scansAt, slotsAt, selectAt, planWords, scanWords, slotWords};
-ghost use Rattle.plan_words.specs.Write.{indexWord, flowWord, constantWord, valueWord, wordsOfScan, wordsOfSlot, wordsOfSelect, laid, wordsOfPlan, putAt};
+ghost use Rattle.plan_words.specs.Write.{indexWord, flowWord, constantWord, valueWord, wordsOfScan, wordsOfSlot, wordsOfSelect, laid, wordsOfPlan, putAt, withIndexes};
 
 // The words of a plan.
 pub fn words_of_plan(plan: Plan) -> [u64; PLAN_WORDS]
@@ -44,6 +44,20 @@ pub fn words_of_plan(plan: Plan) -> [u64; PLAN_WORDS]
     write_slots(slots, &mut words);
     write_select(select, &mut words);
     words
+}
+
+// Write the indexes of the scans that count over those of a plan's words. Every other word stays, whatever it says: no plan is read from
+// it and written back. A count past the array is that of all of it.
+pub fn write_indexes(scans: [Scan; MAX_SCANS], scan_count: usize, words: &mut [u64; PLAN_WORDS])
+    ensures { λ r. ⌜ now (words .exit) ≡ withIndexes (take «scan_count» scans) 0 (now (words .entry)) ⌝ }
+{
+    let mut i: usize = 0;
+    while i < MAX_SCANS && i < scan_count {
+        let scan = scans[i];
+        let index = scan.index;
+        words[SCANS_AT + SCAN_WORDS * i] = index_word(index);
+        i += 1;
+    }
 }
 
 fn write_scans(scans: [Scan; MAX_SCANS], words: &mut [u64])

@@ -1,6 +1,6 @@
 // Cases of `replay`: a plan (crate `given`). Written is what the plan check says, the cost, and whether `next` makes a new plan, with the
-// indexes that stand after it. Or what the smaller calls answer: the counts, the flows, the cost and the next of its scans without a check,
-// and each scan by itself. compare/plans.rs makes cases and answers.
+// indexes that stand after it. Or what the smaller calls answer: the counts, the flows, the cost and the next of its scans without the
+// plan, and each scan by itself. compare/plans.rs makes cases and answers.
 use capacity::MAX_SCANS;
 use cost::Costed;
 use plan::EntityValueFlow;
@@ -52,12 +52,18 @@ fn put_costed(costed: Costed) {
     }
 }
 
-fn put_is_new(is_new: bool) {
-    if is_new {
-        put(b"yes");
+// Whether a step gave something new, or why it was refused.
+fn put_is_new(verdict: Verdict, is_new: bool) {
+    if let Verdict::Refused(_) = verdict {
+        put_verdict(verdict);
     } else {
-        put(b"no");
+        if is_new {
+            put(b"yes");
+        } else {
+            put(b"no");
+        }
     }
+    put(b" ");
 }
 
 fn put_next(plan: Plan) {
@@ -65,12 +71,7 @@ fn put_next(plan: Plan) {
     let verdict = next.verdict;
     let after = next.plan;
     let scans = after.scans;
-    if let Verdict::Fine = verdict {
-        put_is_new(next.is_new);
-    } else {
-        put_verdict(verdict);
-    }
-    put(b" ");
+    put_is_new(verdict, next.is_new);
     put_indexes(scans, after.scan_count);
 }
 
@@ -87,10 +88,10 @@ fn put_checks(plan: Plan) {
 // Whether the scans give a new plan, and the indexes after it.
 fn put_stepped(scans: [Scan; MAX_SCANS], count: usize) {
     let next = listing::next_scans(scans, count);
+    let verdict = next.verdict;
     let after = next.scans;
     put(b", next ");
-    put_is_new(next.is_new);
-    put(b" ");
+    put_is_new(verdict, next.is_new);
     put_indexes(after, count);
 }
 
@@ -127,11 +128,13 @@ fn put_flow(flow: EntityValueFlow) {
     }
 }
 
+// A scan's next is that of an array of which it alone counts.
 fn put_next_scan(scan: Scan) {
-    let next = listing::next_scan(scan);
-    let after = next.scan;
+    let next = listing::next_scans([scan; MAX_SCANS], 1);
+    let verdict = next.verdict;
+    let scans = next.scans;
+    let after = scans[0];
     put(b" next ");
-    put_is_new(next.is_new);
-    put(b" ");
+    put_is_new(verdict, next.is_new);
     written::put_scan(after);
 }

@@ -6,7 +6,7 @@ use native.Mathlib.Omega.{arith}
 use mathlib.Core.List.{List, [], _∷_, _++_}
 use mathlib.Core.Bool.{Bool, true, false}
 use borrow.Author.Tests.{lt-leb}
-use lib.ListN.{length}
+use lib.ListN.{length, take}
 use Rattle.capacity.specs.Capacity.{maxSearched}
 use Rattle.refusal.specs.declared.Verdict.the-variants.{Fine}
 use Rattle.plan.specs.declared.Scan.{Scan}
@@ -14,7 +14,8 @@ use Rattle.plan.specs.declared.Index.{Index}
 use Rattle.plan.specs.declared.Index.the-variants.{Aevt, Avet, Eavt}
 use Rattle.plan.specs.declared.Flow.{Flow}
 use Rattle.plan.specs.declared.Flow.the-variants.{OutOut, InOut, InIn}
-use Rattle.cost.specs.Cost.{penaltyFor, indexUsed, keyUsed, itersOf, weight, weightFault, weighedFrom}
+use Rattle.plan.specs.Plan.{scanFlowsFault}
+use Rattle.cost.specs.Cost.{penaltyFor, indexUsed, keyUsed, itersOf, weight, weightFault, costOfScans}
 
 penalty-most : (x : Index) (k i : Bool) → penaltyFor x k i ≤ 100
 penalty-most Aevt true i = omega arith
@@ -74,6 +75,7 @@ unfolding weightFault
 fault-fine before [] i h = refl
 fault-fine before (s ∷ ss) i h = simp (fault-fine (before ++ (s ∷ [])) ss (i + 1) (omega arith), lt-leb (2 ^ 64) _ (weight-below before (s ∷ ss) h))
 
-pub cost-fits : (ss : List Scan) → length ss ≤ maxSearched → weighedFrom [] ss 0 .cost ≡ weight [] ss
-unfolding weighedFrom
-cost-fits ss h = rw (fault-fine [] ss 0 h)
+pub cost-fits : (scans : List Scan) (k : ℕ) → scanFlowsFault scans k ≡ Fine → length (take k scans) ≤ maxSearched
+    → costOfScans scans k .cost ≡ weight [] (take k scans)
+unfolding costOfScans
+cost-fits scans k e h = rw (e, fault-fine [] (take k scans) 0 h)

@@ -17,4 +17,4 @@ loader-next-spec =
     (λ c. rw (c .number-of .ensures, c .before .before .before .answer-of .ensures, c .before .before .before .before .bit-of .ensures, ← (c .before .before .before .before .before .before .read-plan .ensures), ← (c .before .before .before .before .before .next .ensures), c .before .enum-told .given .1) (refl, (refl, refl)))
     (λ c. search needs)
     (λ c κs. search needs)
-    (λ c. rw (c .words-of-plan .ensures, c .before .before .before .before .answer-of .ensures, c .before .before .before .before .before .bit-of .ensures, ← (c .before .before .before .before .before .before .before .read-plan .ensures), ← (c .before .before .before .before .before .before .next .ensures), c .before .before .enum-told2 .given .1) (refl, (refl, refl))))
+    (λ c. rw (c .write-indexes .ensures, c .before .before .before .before .before .before .answer-of .ensures, c .before .before .before .before .before .before .before .bit-of .ensures, ← (c .before .before .before .before .before .before .before .before .before .read-plan .ensures), ← (c .before .before .before .before .before .before .before .before .next .ensures), c .before .before .before .before .enum-told2 .given .1) (refl, (refl, refl))))
