@@ -6,7 +6,7 @@ use native.Mathlib.Nat.{div-mul-le-self, mul-div-cancel, mul-le-mul-right, min-l
 use mathlib.Core.Logic.{⊎-elim}
 use native.Mathlib.Omega.{arith}
 use borrow.Author.Tests.{lt-ltb, le-ltb}
-use lib.ListN.{length, take, drop, length-take, length-map, take-append-drop}
+use lib.ListN.{length, take, drop, length-append, length-take, length-drop, length-map, take-append-drop}
 use lib.Seq.{length-take-le, drop-append-le, take-at}
 use lib.Dec.{ltb}
 use Rattle.capacity.specs.Capacity.{maxSelects}
@@ -98,9 +98,11 @@ module _ (p : Plan) (ts : Tables) (selects : length (p .select) ≡ maxSelects) 
         let count : r .count ≡ 0 = rw (f, refused) refl in
         let words : r .count * p .«select_count» ≡ 0 = rw count (omega arith) in
         let same : part ≡ take room rows = rw (g, refused) refl in
+        let whole : part ++ drop room rows ≡ rows = rw same (take-append-drop room rows) in
         record {
           verdict-is = verdict ∙ sym refused;
-          rows-after = rw (same, refused) (take-append-drop room rows);
+          rows-after = rw refused whole;
+          rows-long = ap length whole;
           words-fit = omega arith;
           in-front = λ fine. let z : _≡_ {A = ℕ} 0 1 = cc in absurd (omega arith);
         }
@@ -131,6 +133,13 @@ module _ (p : Plan) (ts : Tables) (selects : length (p .select) ≡ maxSelects) 
     unfolding shownOf
     shown-few = mul-le-mul-right (p .«select_count») (omega (arith, length-take (min left (length rows / p .«select_count»)) (drop from (rowList p ts))))
 
+    words-few : length (flat shown) ≤ length rows
+    words-few = omega (arith, flat-long shown-wide, shown-few, room-within left (p .«select_count») (length rows))
+
+    -- the buffer stays as long
+    pub rows-stay : length (filled shown rows) ≡ length rows
+    rows-stay = length-append (flat shown) (drop (length (flat shown)) rows) ∙ rw (length-drop (length (flat shown)) rows) (omega (arith, words-few))
+
     fine-fills : Answered room
     unfolding evaluateOf bufferAfter rowsAfter
     fine-fills r part f g =
@@ -144,11 +153,11 @@ module _ (p : Plan) (ts : Tables) (selects : length (p .select) ≡ maxSelects) 
         record {
           verdict-is = verdict ∙ sym fine;
           rows-after = rw fine all;
+          rows-long = ap length all ∙ rows-stay;
           words-fit = rw count (omega (arith, shown-few));
           in-front = λ e. record {
             count-is = count;
             more-is = more;
-            rows-are = all;
             words-are = rw (count, all) (take-at (flat shown) (drop (length (flat shown)) rows) (length shown * p .«select_count») long);
           };
         }

@@ -6,6 +6,7 @@ use mathlib.Core.List.{List, [], _++_}
 use lib.ListN.{length, take, drop}
 use lib.Dec.{leb, ltb, eqb}
 use lib.Seq.{sets}
+use Rattle.refusal.specs.declared.Verdict.{Verdict}
 use Rattle.refusal.specs.declared.Verdict.the-variants.{Fine}
 use Rattle.refusal.specs.Verdict.{unless}
 use Rattle.plan.specs.declared.Plan.{Plan}
@@ -77,18 +78,24 @@ wordBytes = 21
 abbrev pub lastBytes : ℕ
 lastBytes = 13
 
--- the answer for a window: how many bytes are written, whether it is the last, and how the next begins. Where evaluation is refused it is
--- the verdict, and no window follows
-unfoldable pub windowOf : Plan → Tables → ℕ → ℕ → ℕ → Window
-windowOf p ts from left room =
-    unless (evaluationFault p ts) (λ v. record { verdict = v; length = 0; last = true; from = 0; left = 0 })
-    (record {
+-- where evaluation is refused the answer is the verdict, and no window follows
+abbrev pub refusedWindow : Verdict → Window
+refusedWindow v = record { verdict = v; length = 0; last = true; from = 0; left = 0 }
+
+-- else how many bytes are written, whether the window is the last, and how the next begins
+abbrev pub shownWindow : Plan → Tables → ℕ → ℕ → ℕ → Window
+shownWindow p ts from left room =
+    record {
       verdict = Fine;
       length = after 0 (length (windowText p ts from left room));
       last = windowStep p ts from left room .last;
       from = windowStep p ts from left room .from;
       left = windowStep p ts from left room .left;
-    })
+    }
+
+-- the answer for a window
+unfoldable pub windowOf : Plan → Tables → ℕ → ℕ → ℕ → Window
+windowOf p ts from left room = unless (evaluationFault p ts) refusedWindow (shownWindow p ts from left room)
 
 -- the buffer for rows after it: the rows that are shown, and the words past them as they were; refused, as it was
 unfoldable pub rowsAfter : Plan → Tables → ℕ → ℕ → List ℕ → List ℕ
@@ -102,13 +109,13 @@ outAfter p ts from left room out = unless (evaluationFault p ts) (λ v. out) (se
 pub record Front (p : Plan) (ts : Tables) (from left : ℕ) (rows : List ℕ) (r : Evaluated) (rows′ : List ℕ) : Type 0 where
   pub count-is : r .count ≡ length (shownOf p ts from left (length rows))
   pub more-is : r .more ≡ moreOf p ts from left (length rows)
-  pub rows-are : rows′ ≡ filled (shownOf p ts from left (length rows)) rows
   pub words-are : take (r .count * p .«select_count») rows′ ≡ flat (shownOf p ts from left (length rows))
 
 -- what `fill` promises
 pub record Fills (p : Plan) (ts : Tables) (from left : ℕ) (rows : List ℕ) (r : Evaluated) (rows′ : List ℕ) : Type 0 where
   pub verdict-is : r .verdict ≡ evaluationFault p ts
   pub rows-after : rows′ ≡ rowsAfter p ts from left rows
+  pub rows-long : length rows′ ≡ length rows
   pub words-fit : r .count * p .«select_count» ≤ length rows
   pub in-front : evaluationFault p ts ≡ Fine → Front p ts from left rows r rows′
 

@@ -1,28 +1,75 @@
--- `put_answer` is safe: what is said fits in the buffer.
-use mathlib.Core.Path.{sym}
-use native.Mathlib.Omega.{arith}
-use lib.Seq.{length-take-le}
-use Rattle.pieces.proofs.Written.{written-length}
-use borrow.Author.Needs.{needs}
 use Rattle.ask.proofs.put_answer.Statement.{statement}
 use Rattle.ask.proofs.put_answer.Tie as tie
+use Rattle.ask.proofs.put_answer.Reads as reads
+use Rattle.ask.proofs.put_answer.Lts as lts
+use Rattle.ask_answer.proofs.begin.Reads as begin-reads
+use Rattle.ask_answer.proofs.go_on.Reads as go-on-reads
+use Rattle.io.proofs.write_all.Reads as write-all-reads
 
-slice-reshare-prefix-put : tie.Need-slice-reshare-prefix-put
-slice-reshare-prefix-put c = let w = c .before .before .«open» .ensures .line in omega (arith, w .fits (omega arith), written-length (w .is-written))
+abbrev Inv-loop : tie.InvT-loop
+Inv-loop words out₀ rows₀ part₀ out rows part = ?
 
-slice-aggregate-put : tie.Need-slice-aggregate-put
-slice-aggregate-put c = let w = c .before .before .before .«open» .ensures .line in sym (length-take-le _ _ (omega (arith, w .fits (omega arith), written-length (w .is-written))))
+abbrev μ-loop : tie.MeasureT-loop
+μ-loop words out₀ rows₀ part₀ out rows part = ?
+
+-- src/main.rt:25:9
+begin-requires : tie.Need-begin-requires Inv-loop μ-loop
+begin-requires c κs = ?
+
+-- src/main.rt:26:5
+loop-holds : tie.Need-loop-holds Inv-loop μ-loop
+loop-holds c = ?
+
+-- src/main.rt:28:38
+slice-reshare-prefix-write-all : tie.Need-slice-reshare-prefix-write-all Inv-loop μ-loop
+slice-reshare-prefix-write-all c = ?
+
+-- src/main.rt:28:38
+slice-aggregate-write-all : tie.Need-slice-aggregate-write-all Inv-loop μ-loop
+slice-aggregate-write-all c = ?
+
+-- src/main.rt:28:9
+write-all-requires : tie.Need-write-all-requires Inv-loop μ-loop
+write-all-requires c κs = ?
+
+-- src/main.rt:30:13
+same-length : tie.Need-same-length Inv-loop μ-loop
+same-length c = ?
+
+-- src/main.rt:30:13
+returns : tie.Need-returns Inv-loop μ-loop
+returns c = ?
+
+-- src/main.rt:32:47
+slice-aggregate-go-on : tie.Need-slice-aggregate-go-on Inv-loop μ-loop
+slice-aggregate-go-on c = ?
+
+-- src/main.rt:32:9
+go-on-requires : tie.Need-go-on-requires Inv-loop μ-loop
+go-on-requires c κs = ?
+
+-- src/main.rt:26:5
+loop-less : tie.Need-loop-less Inv-loop μ-loop
+loop-less c = ?
+
+-- src/main.rt:26:5
+loop-again : tie.Need-loop-again Inv-loop μ-loop
+loop-again c = ?
 
 pub put-answer-spec : {M : Type 1} → statement M
 put-answer-spec =
     tie.close
     (tie.spec
-    (λ c κs. search needs)
-    slice-reshare-prefix-put
-    slice-aggregate-put
-    (λ c κs. search needs)
-    (λ c κs. search needs)
-    (λ c. search needs)
-    (λ c. search needs)
-    (λ c. search needs)
-    (λ c. search needs))
+    Inv-loop
+    μ-loop
+    begin-requires
+    loop-holds
+    slice-reshare-prefix-write-all
+    slice-aggregate-write-all
+    write-all-requires
+    same-length
+    returns
+    slice-aggregate-go-on
+    go-on-requires
+    loop-less
+    loop-again)

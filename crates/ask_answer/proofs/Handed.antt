@@ -1,0 +1,43 @@
+-- The parts of the answer from what `opening` and `windows` promise; and after each but the last fewer rows are left to show.
+use mathlib.Core.Path.{_≡_, refl, ap, subst}
+use mathlib.Core.Bool.{false, not}
+use mathlib.Core.List.{List}
+use Prim.Native.Nat.{ℕ, _-_, _^_, _<_, min}
+use lib.ListN.{length, getD}
+use Rattle.asked.specs.declared.Parts.{Parts}
+use Rattle.asked.specs.Parts.{partsOf, itemsOf}
+use Rattle.opening.specs.declared.Opening.{Opening}
+use Rattle.opening.specs.Question.{tablesIn}
+use Rattle.opening.specs.Opening.{openingOf, Opens}
+use Rattle.opening.proofs.Said.{tables-are}
+use Rattle.visits.specs.Visits.{Tables, tablesOf}
+use Rattle.windows.specs.declared.Window.{Window}
+use Rattle.windows.specs.Windows.{Shows}
+use Rattle.windows.proofs.Shown.{falls}
+use Rattle.ask_answer.specs.declared.Part.{Part}
+use Rattle.ask_answer.specs.Answer.{rowsAsked}
+use Rattle.ask_answer.specs.Parts.{firstPart, partOf, nextPart, Begins, GoesOn}
+
+-- what is said of the numbers, and the header's rows
+pub begins : {ws out out′ : List ℕ} {o : Opening} {from most left : ℕ} → Opens (openingOf ws (length out)) out o out′ → from ≡ getD ws 2 0 → most ≡ getD ws 3 0
+    → left ≡ min most (2 ^ 64 - from) → Begins ws out (record { length = o .length; last = not (o .rows); plan = o .plan; from = from; left = left }) out′
+unfolding firstPart rowsAsked
+begins o e f g = record {
+  part-is = rw (o .line .is-written .position-is, o .rows-is, o .plan-is, g, f, e) refl;
+  out-is = o .line .is-written .buffer-is;
+  fits = o .line .fits;
+}
+
+-- the next window of rows, over the items of the tables' parts
+pub goes-on : {ws a b c rows out rows′ out′ : List ℕ} (p : Part) {q : Parts} {w : Window} → q ≡ partsOf ws → a ≡ itemsOf ws (q .aevt) → b ≡ itemsOf ws (q .avet) → c ≡ itemsOf ws (q .eavt)
+    → Shows (p .plan) (tablesOf a b c) (p .from) (p .left) rows out w rows′ out′ → GoesOn ws p rows out (partOf (p .plan) w) rows′ out′
+unfolding nextPart
+goes-on {ws} {a} {b} {c} {rows} {out} {rows′} {out′} p {q} {w} e f g h s =
+    let t = subst (λ (ts : Tables). Shows (p .plan) ts (p .from) (p .left) rows out w rows′ out′) (tables-are ws q a b c e f g h) s in
+    record { part-is = ap (partOf (p .plan)) (t .answer-is); rows-are = t .rows-are; out-is = t .out-is; fits = t .fits }
+
+-- a run ends: this number falls
+pub part-falls : {ws rows out rows′ out′ : List ℕ} {p r : Part} → GoesOn ws p rows out r rows′ out′ → r .last ≡ false → r .left < p .left
+unfolding nextPart
+part-falls {ws} {rows} {p = p} {r = r} g e =
+    rw (g .part-is) (falls (p .plan) (tablesIn ws) (p .from) (p .left) (length rows) (rw (g .part-is) at e))
