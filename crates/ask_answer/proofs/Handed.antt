@@ -1,8 +1,9 @@
--- The parts of the answer from what `opening` and `windows` promise; and after each but the last fewer rows are left to show.
+-- The parts of the answer from what `opening` and `windows` promise; and with each part fewer are to come.
 use mathlib.Core.Path.{_≡_, refl, ap, subst}
-use mathlib.Core.Bool.{false, not}
+use mathlib.Core.Bool.{Bool, true, false, cond, not}
 use mathlib.Core.List.{List}
-use Prim.Native.Nat.{ℕ, _-_, _^_, _<_, min}
+use Prim.Native.Nat.{ℕ, _+_, _-_, _^_, _<_, min}
+use native.Mathlib.Omega.{arith}
 use lib.ListN.{length, getD}
 use Rattle.asked.specs.declared.Parts.{Parts}
 use Rattle.asked.specs.Parts.{partsOf, itemsOf}
@@ -17,6 +18,7 @@ use Rattle.windows.proofs.Shown.{falls}
 use Rattle.ask_answer.specs.declared.Part.{Part}
 use Rattle.ask_answer.specs.Answer.{rowsAsked}
 use Rattle.ask_answer.specs.Parts.{firstPart, partOf, nextPart, Begins, GoesOn}
+use Rattle.ask_answer.specs.Run.{toCome}
 
 -- what is said of the numbers, and the header's rows
 pub begins : {ws out out′ : List ℕ} {o : Opening} {from most left : ℕ} → Opens (openingOf ws (length out)) out o out′ → from ≡ getD ws 2 0 → most ≡ getD ws 3 0
@@ -36,8 +38,13 @@ goes-on {ws} {a} {b} {c} {rows} {out} {rows′} {out′} p {q} {w} e f g h s =
     let t = subst (λ (ts : Tables). Shows (p .plan) ts (p .from) (p .left) rows out w rows′ out′) (tables-are ws q a b c e f g h) s in
     record { part-is = ap (partOf (p .plan)) (t .answer-is); rows-are = t .rows-are; out-is = t .out-is; fits = t .fits }
 
--- a run ends: this number falls
-pub part-falls : {ws rows out rows′ out′ : List ℕ} {p r : Part} → GoesOn ws p rows out r rows′ out′ → r .last ≡ false → r .left < p .left
+-- a run ends: with each part fewer are to come
+pub fewer : {ws rows out rows′ out′ : List ℕ} {p r : Part} → GoesOn ws p rows out r rows′ out′ → p .last ≡ false → toCome r < toCome p
 unfolding nextPart
-part-falls {ws} {rows} {p = p} {r = r} g e =
-    rw (g .part-is) (falls (p .plan) (tablesIn ws) (p .from) (p .left) (length rows) (rw (g .part-is) at e))
+fewer {ws} {rows} {p = p} {r = r} g e = rw e (by-cases (r .last) refl)
+  where
+    by-cases : (t : Bool) → r .last ≡ t → cond t 0 (r .left + 1) < p .left + 1
+    by-cases true f = omega arith
+    by-cases false f =
+        let less : r .left < p .left = rw (g .part-is) (falls (p .plan) (tablesIn ws) (p .from) (p .left) (length rows) (rw (g .part-is) at f)) in
+        omega arith

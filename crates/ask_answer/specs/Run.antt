@@ -1,7 +1,7 @@
 -- A run of the program, as the contracts of its parts describe it, and the bytes that it hands over.
 use mathlib.Core.Path.{_≡_}
-use Prim.Native.Nat.{ℕ}
-use mathlib.Core.Bool.{true, false}
+use Prim.Native.Nat.{ℕ, _+_}
+use mathlib.Core.Bool.{true, false, cond}
 use mathlib.Core.List.{List, [], _++_}
 use lib.ListN.{length, take}
 use Rattle.ask_answer.specs.declared.Part.{Part}
@@ -13,6 +13,10 @@ pub data Rest (ws : List ℕ) : Part → List ℕ → List ℕ → List ℕ → 
   ends : {p : Part} {rows out : List ℕ} → p .last ≡ true → Rest ws p rows out []
   goes : {p r : Part} {rows out rows′ out′ bytes : List ℕ} → p .last ≡ false → GoesOn ws p rows out r rows′ out′ → Rest ws r rows′ out′ bytes
       → Rest ws p rows out (take (r .length) out′ ++ bytes)
+
+-- at most so many parts are to come: none after the last; else one for each row that is left to show, and one more
+abbrev pub toCome : Part → ℕ
+toCome p = cond (p .last) 0 (p .left + 1)
 
 -- a text is read, and the bytes of the first part and what comes after it are handed over; for buffers of the program's sizes
 pub data Run (text : List ℕ) : List ℕ → Type 0 where

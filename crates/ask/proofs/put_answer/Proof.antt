@@ -1,60 +1,33 @@
+-- `put_answer` is safe and ends: each part lies within the buffer, and with each fewer are to come.
+use borrow.Author.Needs.{needs}
+use mathlib.Core.Path.{_≡_, sym}
+use Prim.Native.Nat.{_≤_}
+use native.Mathlib.Omega.{arith}
+use lib.ListN.{length}
+use lib.Seq.{length-take-le}
+use Rattle.ask_answer.specs.Capacity.{textBytes, windowWords}
+use Rattle.ask_answer.specs.Run.{toCome}
+use Rattle.ask_answer.proofs.Handed.{fewer}
 use Rattle.ask.proofs.put_answer.Statement.{statement}
 use Rattle.ask.proofs.put_answer.Tie as tie
-use Rattle.ask.proofs.put_answer.Reads as reads
-use Rattle.ask.proofs.put_answer.Lts as lts
-use Rattle.ask_answer.proofs.begin.Reads as begin-reads
-use Rattle.ask_answer.proofs.go_on.Reads as go-on-reads
-use Rattle.io.proofs.write_all.Reads as write-all-reads
 
 abbrev Inv-loop : tie.InvT-loop
-Inv-loop words out₀ rows₀ part₀ out rows part = ?
+Inv-loop words out₀ rows₀ part₀ out rows part = (length out ≡ textBytes) × ((length rows ≡ windowWords) × (part .length ≤ length out))
 
 abbrev μ-loop : tie.MeasureT-loop
-μ-loop words out₀ rows₀ part₀ out rows part = ?
+μ-loop words out₀ rows₀ part₀ out rows part = toCome part
 
--- src/main.rt:25:9
-begin-requires : tie.Need-begin-requires Inv-loop μ-loop
-begin-requires c κs = ?
-
--- src/main.rt:26:5
 loop-holds : tie.Need-loop-holds Inv-loop μ-loop
-loop-holds c = ?
+loop-holds c = (search needs, (search needs, omega (arith, c .before .before .begin .ensures .fits (omega arith))))
 
--- src/main.rt:28:38
-slice-reshare-prefix-write-all : tie.Need-slice-reshare-prefix-write-all Inv-loop μ-loop
-slice-reshare-prefix-write-all c = ?
-
--- src/main.rt:28:38
 slice-aggregate-write-all : tie.Need-slice-aggregate-write-all Inv-loop μ-loop
-slice-aggregate-write-all c = ?
+slice-aggregate-write-all c = sym (length-take-le _ _ (search needs))
 
--- src/main.rt:28:9
-write-all-requires : tie.Need-write-all-requires Inv-loop μ-loop
-write-all-requires c κs = ?
-
--- src/main.rt:30:13
-same-length : tie.Need-same-length Inv-loop μ-loop
-same-length c = ?
-
--- src/main.rt:30:13
-returns : tie.Need-returns Inv-loop μ-loop
-returns c = ?
-
--- src/main.rt:32:47
-slice-aggregate-go-on : tie.Need-slice-aggregate-go-on Inv-loop μ-loop
-slice-aggregate-go-on c = ?
-
--- src/main.rt:32:9
-go-on-requires : tie.Need-go-on-requires Inv-loop μ-loop
-go-on-requires c κs = ?
-
--- src/main.rt:26:5
 loop-less : tie.Need-loop-less Inv-loop μ-loop
-loop-less c = ?
+loop-less c = fewer (c .before .before .before .go-on .ensures) (c .before .before .before .before .before .before .if1 .left)
 
--- src/main.rt:26:5
 loop-again : tie.Need-loop-again Inv-loop μ-loop
-loop-again c = ?
+loop-again c = (search needs, (search needs, omega (arith, c .before .before .before .go-on .ensures .fits (omega arith))))
 
 pub put-answer-spec : {M : Type 1} → statement M
 put-answer-spec =
@@ -62,14 +35,15 @@ put-answer-spec =
     (tie.spec
     Inv-loop
     μ-loop
-    begin-requires
+    (λ c κs. search needs)
+    (λ c κs. search needs)
     loop-holds
-    slice-reshare-prefix-write-all
+    (λ c. search needs)
     slice-aggregate-write-all
-    write-all-requires
-    same-length
-    returns
-    slice-aggregate-go-on
-    go-on-requires
+    (λ c κs. search needs)
+    (λ c. search needs)
+    (λ c. search needs)
+    (λ c. search needs)
+    (λ c κs. search needs)
     loop-less
     loop-again)
