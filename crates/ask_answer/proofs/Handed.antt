@@ -5,6 +5,7 @@ use mathlib.Core.List.{List}
 use Prim.Native.Nat.{ℕ, _+_, _-_, _^_, _<_, min}
 use native.Mathlib.Omega.{arith}
 use lib.ListN.{length, getD}
+use Rattle.refusal.specs.declared.Verdict.the-variants.{Fine}
 use Rattle.asked.specs.declared.Parts.{Parts}
 use Rattle.asked.specs.Parts.{partsOf, itemsOf}
 use Rattle.opening.specs.declared.Opening.{Opening}
@@ -22,7 +23,7 @@ use Rattle.ask_answer.specs.Run.{toCome}
 
 -- what is said of the numbers, and the header's rows
 pub begins : {ws out out′ : List ℕ} {o : Opening} {from most left : ℕ} → Opens (openingOf ws (length out)) out o out′ → from ≡ getD ws 2 0 → most ≡ getD ws 3 0
-    → left ≡ min most (2 ^ 64 - from) → Begins ws out (record { length = o .length; last = not (o .rows); plan = o .plan; from = from; left = left }) out′
+    → left ≡ min most (2 ^ 64 - from) → Begins ws out (record { verdict = Fine; length = o .length; last = not (o .rows); plan = o .plan; from = from; left = left }) out′
 unfolding firstPart rowsAsked
 begins o e f g = record {
   part-is = rw (o .line .is-written .position-is, o .rows-is, o .plan-is, g, f, e) refl;

@@ -7,6 +7,7 @@ use lib.ListN.{length}
 use lib.Seq.{sets}
 use lib.Dec.{ltb}
 use Rattle.layout.specs.Words.{said, wordsAfter}
+use Rattle.refusal.specs.declared.Verdict.the-variants.{Fine}
 use Rattle.plan.specs.declared.Plan.{Plan}
 use Rattle.pieces.specs.Written.{after}
 use Rattle.opening.specs.Question.{tablesIn}
@@ -35,6 +36,7 @@ pub record Reads (text words : List ℕ) (count : ℕ) (words′ : List ℕ) : T
 unfoldable pub firstPart : List ℕ → ℕ → Part
 firstPart ws room =
     record {
+      verdict = Fine;
       length = after 0 (length (openingOf ws room .text));
       last = not (openingOf ws room .rows);
       plan = openingOf ws room .plan;
@@ -44,9 +46,9 @@ firstPart ws room =
 
 -- a window of a plan's rows as a part
 abbrev pub partOf : Plan → Window → Part
-partOf plan w = record { length = w .length; last = w .last; plan = plan; from = w .from; left = w .left }
+partOf plan w = record { verdict = w .verdict; length = w .length; last = w .last; plan = plan; from = w .from; left = w .left }
 
--- after a part comes the next window of the rows of its plan, over the tables; where evaluation is refused, nothing
+-- after a part comes the next window of the rows of its plan, over the tables; where evaluation is refused, no bytes, and it is the last
 unfoldable pub nextPart : List ℕ → Part → ℕ → Part
 nextPart ws p room = partOf (p .plan) (windowOf (p .plan) (tablesIn ws) (p .from) (p .left) room)
 

@@ -1,14 +1,16 @@
 // The program's answer, part by part (docs/LAYOUT.md): the numbers of a text; what is said of them; and then, window by window, the rows.
 // The parts one after the other are the answer to the text.
 use plan::Plan;
+use refusal::Verdict;
 ghost use mathlib.Core.Path.{_≡_};
 ghost use Prim.Native.Nat.{_-_, _^_, min};
 ghost use lib.ListN.{length};
 ghost use Rattle.ask_answer.specs.Parts.{Reads, Begins, GoesOn};
 
-// A part of the answer: how many bytes it has and whether it is the last; and how to go on, the plan whose rows follow, the number of the
-// next row, and how many are left to show.
+// A part of the answer: whether evaluation is refused; how many bytes it has and whether it is the last; and how to go on, the plan whose
+// rows follow, the number of the next row, and how many are left to show.
 pub struct Part {
+    pub verdict: Verdict,
     pub length: usize,
     pub last: bool,
     pub plan: Plan,
@@ -47,6 +49,7 @@ pub fn begin(words: &[u64], out: &mut [u8]) -> Part
     let from = asked::word_at(words, asked::FROM);
     let most = asked::word_at(words, asked::MOST);
     Part {
+        verdict: Verdict::Fine,
         length: opening.length,
         last: !opening.rows,
         plan,
@@ -66,7 +69,7 @@ fn with_numbers(from: u64, most: u64) -> u64
     if numbers < most { numbers } else { most }
 }
 
-// Write the part after one, the next window of rows, to the front of a buffer.
+// Write the part after one, the next window of rows, to the front of a buffer. On a refusal of evaluation both buffers stay as they are.
 pub fn go_on(words: &[u64], part: Part, rows: &mut [u64], out: &mut [u8]) -> Part
     ensures { λ r. ⌜ GoesOn (now (words .entry)) part (now (rows .entry)) (now (out .entry)) r (now (rows .exit)) (now (out .exit)) ⌝ }
 {
@@ -85,7 +88,9 @@ pub fn go_on(words: &[u64], part: Part, rows: &mut [u64], out: &mut [u8]) -> Par
         rows,
         out,
     );
+    let verdict = window.verdict;
     Part {
+        verdict,
         length: window.length,
         last: window.last,
         plan,
