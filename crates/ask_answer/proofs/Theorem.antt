@@ -1,6 +1,6 @@
--- What a run hands over, part after part, is the answer to its text.
+-- What a run hands over, part after part, is the answer to its text: by induction over the parts, each of which is a window of the rows.
 use mathlib.Core.Path.{_≡_, refl, sym, ap, _∙_}
-use mathlib.Core.Bool.{Bool, true, false, cond, not}
+use mathlib.Core.Bool.{Bool, true, false, cond, not, false≢true}
 use mathlib.Core.List.{List, [], _++_}
 use Prim.Native.Nat.{ℕ, _+_, _-_, _^_, _≤_, _<_}
 use native.Mathlib.Omega.{arith}
@@ -40,9 +40,9 @@ front text out n e h k =
 -- after the last part nothing is handed over
 rest-none : {ws : List ℕ} {q : Part} {rows out bytes : List ℕ} → Rest ws q rows out bytes → q .last ≡ true → bytes ≡ []
 rest-none (ends e) last = refl
-rest-none (goes e g r) last = let z : _≡_ {A = Bool} false true = sym e ∙ last in let y : _≡_ {A = ℕ} 0 1 = cc in absurd (omega arith)
+rest-none (goes e g r) last = absurd (false≢true (sym e ∙ last))
 
--- after another the rest of the rows of its plan
+-- after another the rest of the rows of its plan, which evaluation does not refuse
 module _ (ws : List ℕ) (p : Plan) (selects : length (p .select) ≡ maxSelects) (fine : evaluationFault p (tablesIn ws) ≡ Fine) where
   abbrev ts : Tables
   ts = tablesIn ws
@@ -76,7 +76,7 @@ module _ (ws : List ℕ) (p : Plan) (selects : length (p .select) ≡ maxSelects
   rest-is : {q : Part} {rows out bytes : List ℕ} → Rest ws q rows out bytes → q .plan ≡ p → length rows ≡ windowWords → length out ≡ textBytes → q .left ≤ 2 ^ 64 - q .from
       → bytes ≡ cond (q .last) [] (rowsText p ts (q .from) (q .left))
   rest-is (ends e) same many room numbered = rw e refl
-  rest-is (goes {p = q} {r = r} {bytes = bytes} e g rest) same many room numbered =
+  rest-is (goes {p = q} e g rest) same many room numbered =
       let n = next g same many room in
       let part = n .step-is in
       let later = rest-is rest (ap (λ (x : Part). x .plan) part) (n .rows-long) (n .out-long) (rw part (still-numbered p ts selects fine (q .from) (q .left) windowWords fits numbered)) in
@@ -121,6 +121,7 @@ answer-read text = by-cases (isRead text wordCount)
     by-cases true = refl
     by-cases false = none-answered
 
+-- the bytes of a whole run are the answer to its text
 pub run-answers : {text bytes : List ℕ} → Run text bytes → bytes ≡ answerTo text
 run-answers {text} (run {words′ = words′} {count = count} words-long out-long rows-long r b rest) =
     let read : take count words′ ≡ numbersIn text wordCount = rw words-long at (numbers-read r) in
