@@ -1,2 +1,3 @@
 pub mod Cases
+pub mod Sized
 pub mod OneAnswer

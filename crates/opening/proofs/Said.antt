@@ -11,7 +11,6 @@ use lib.Dec.{leb}
 use Rattle.refusal.specs.declared.Refusal.{Refusal}
 use Rattle.refusal.specs.declared.Verdict.{Verdict}
 use Rattle.refusal.specs.declared.Verdict.the-variants.{Fine, Refused}
-use Rattle.refusal.specs.Verdict.{unless}
 use Rattle.refusal.proofs.Fine.{or-fine}
 use Rattle.plan.specs.declared.Plan.{Plan}
 use Rattle.plan.specs.Plan.{emptyPlan}
@@ -23,9 +22,8 @@ use Rattle.plan_text.specs.declared.Formatted.{Formatted}
 use Rattle.plan_text.specs.Text.{textOf}
 use Rattle.plan_text.specs.Answer.{textFault, formattedOf, bufferAfter}
 use Rattle.plan_text.proofs.Answers.{text-fits}
-use Rattle.visits.specs.Visits.{Tables, tablesOf}
-use Rattle.eval.specs.declared.Evaluated.{Evaluated}
-use Rattle.eval.specs.Evaluation.{evaluationFault, evaluateOf}
+use Rattle.visits.specs.Visits.{tablesOf}
+use Rattle.eval.specs.Evaluation.{evaluationFault}
 use Rattle.asked.specs.declared.Parts.{Parts}
 use Rattle.asked.specs.Parts.{partsOf, itemsOf, areKinds, areBytes, insideOf}
 use Rattle.asked.specs.Asked.{bytesAfter}
@@ -88,19 +86,10 @@ module _ (ws : List ℕ) (room : ℕ) where
     unfolding openingOf opened
     said-planned f = rw (question, ← e, f)
 
--- the verdict of evaluation
-pub evaluation-verdict : (p : Plan) (ts : Tables) (k n : ℕ) (r : Evaluated) → r ≡ evaluateOf p ts k n → r .verdict ≡ evaluationFault p ts
-unfolding evaluateOf
-evaluation-verdict p ts k n r e = ap (λ (x : Evaluated). x .verdict) e ∙ by-cases (evaluationFault p ts) _ refl
-  where
-    by-cases : (v : Verdict) (x : Evaluated) → x .verdict ≡ Fine → unless {A = Evaluated} v (λ u. record { verdict = u; count = 0; more = false }) x .verdict ≡ v
-    by-cases Fine x e = e
-    by-cases (Refused s) x e = refl
-
--- over the tables of a question
-pub over-tables : (ws : List ℕ) (p : Plan) (q : Parts) (a b c : List ℕ) → q ≡ partsOf ws → a ≡ itemsOf ws (q .aevt) → b ≡ itemsOf ws (q .avet) → c ≡ itemsOf ws (q .eavt)
-    → evaluationFault p (tablesOf a b c) ≡ evaluationFault p (tablesIn ws)
-over-tables ws p q a b c e f g h = rw (f, g, h, e)
+-- the items of three parts are the tables of a question
+pub tables-are : (ws : List ℕ) (q : Parts) (a b c : List ℕ) → q ≡ partsOf ws → a ≡ itemsOf ws (q .aevt) → b ≡ itemsOf ws (q .avet) → c ≡ itemsOf ws (q .eavt)
+    → tablesOf a b c ≡ tablesIn ws
+tables-are ws q a b c e f g h = rw (f, g, h, e)
 
 module _ (ws : List ℕ) (p : Plan) (names ends : List ℕ) (room : ℕ) where
   -- the text's refusal, or that of evaluation

@@ -1,14 +1,13 @@
 -- The rows of a window lie in front of the buffer that was lent for them.
 use mathlib.Core.Path.{_≡_, refl, sym, ap, _∙_}
-use mathlib.Core.Bool.{false}
-use mathlib.Core.List.{List, [], _++_, append-assoc}
+use mathlib.Core.List.{List, _++_, append-assoc}
 use Prim.Native.Nat.{ℕ, _+_, _*_, _-_, _/_, _≤_, _<_, min}
 use native.Mathlib.Nat.{div-mul-le-self, mul-div-cancel, mul-le-mul-right, min-le-right, eq-or-lt-of-le}
 use mathlib.Core.Logic.{⊎-elim}
 use native.Mathlib.Omega.{arith}
 use borrow.Author.Tests.{lt-ltb, le-ltb}
-use lib.ListN.{length, take, drop, length-take, length-map, take-append-drop, drop-of-length-le}
-use lib.Seq.{length-take-le, drop-append-le, take-at, take-nil}
+use lib.ListN.{length, take, drop, length-append, length-take, length-drop, length-map, take-append-drop}
+use lib.Seq.{length-take-le, drop-append-le, take-at}
 use lib.Dec.{ltb}
 use Rattle.capacity.specs.Capacity.{maxSelects}
 use Rattle.refusal.specs.declared.Refusal.{Refusal}
@@ -25,7 +24,7 @@ use Rattle.visits.specs.Visits.{Tables, initialSlots, slotsAt, selected, visits
 use Rattle.visits.specs.Window.{window, follows, filled}
 use Rattle.eval.specs.declared.Evaluated.{Evaluated}
 use Rattle.eval.specs.Evaluation.{evaluationFault, evaluateOf, bufferAfter}
-use Rattle.windows.specs.Windows.{rowsOf, shownOf, moreOf, Fills}
+use Rattle.windows.specs.Windows.{shownOf, moreOf, rowsAfter, Fills}
 use Rattle.windows.proofs.Wide.{Wide, wide-take, wide-drop, wide-map, flat-long}
 
 -- a plan that is not refused has passed the check
@@ -41,15 +40,10 @@ module _ (p : Plan) (ts : Tables) (selects : length (p .select) ≡ maxSelects) 
     pub selects-long : length (selectsOf p) ≡ width
     selects-long = let few = passed p ts fine .few-selects in length-take-le width (p .select) (omega arith)
 
-    pub fine-rows : rowsOf p ts ≡ rowList p ts
-    unfolding rowsOf
-    fine-rows = rw fine
-
-    pub rows-wide : Wide width (rowsOf p ts)
+    pub rows-wide : Wide width (rowList p ts)
     unfolding rowList
     rows-wide =
-        rw fine-rows
-        (wide-map width (λ w. selected (selectsOf p) (slotsAt ts (scansOf p) (initialSlots p) w)) (λ w. length-map (selectsOf p) _ ∙ selects-long) (visits ts (scansOf p) (initialSlots p)))
+        wide-map width (λ w. selected (selectsOf p) (slotsAt ts (scansOf p) (initialSlots p) w)) (λ w. length-map (selectsOf p) _ ∙ selects-long) (visits ts (scansOf p) (initialSlots p))
 
 -- the words of as many rows as are shown lie within the buffer
 pub room-within : (left width length : ℕ) → min left (length / width) * width ≤ length
@@ -94,35 +88,23 @@ module _ (p : Plan) (ts : Tables) (selects : length (p .select) ≡ maxSelects) 
   -- what evaluation answers for the part of the buffer that is lent
   abbrev pub Answered : ℕ → Type 0
   Answered n = (r : Evaluated) (part : List ℕ) → r ≡ evaluateOf p ts from (length (take n rows)) → part ≡ bufferAfter p ts from (take n rows)
-      → Fills p ts from left rows (r .count) (r .more) (part ++ drop n rows)
+      → Fills p ts from left rows r (part ++ drop n rows)
 
   module _ {s : Refusal} (refused : evaluationFault p ts ≡ Refused s) where
-    no-rows : drop from (rowsOf p ts) ≡ []
-    unfolding rowsOf
-    no-rows = let none : length {A = List ℕ} [] ≤ from = omega arith in rw refused (drop-of-length-le [] none)
-
-    none-shown : shown ≡ []
-    unfolding shownOf
-    none-shown = rw no-rows (take-nil (min left (length rows / p .«select_count»)))
-
-    none-more : false ≡ moreOf p ts from left (length rows)
-    unfolding moreOf
-    none-more = rw (none-shown, no-rows) refl
-
     refused-fills : Answered room
-    unfolding evaluateOf bufferAfter flat
+    unfolding evaluateOf bufferAfter rowsAfter
     refused-fills r part f g =
+        let verdict : r .verdict ≡ Refused s = rw (f, refused) refl in
         let count : r .count ≡ 0 = rw (f, refused) refl in
-        let more : r .more ≡ false = rw (f, refused) refl in
         let words : r .count * p .«select_count» ≡ 0 = rw count (omega arith) in
         let same : part ≡ take room rows = rw (g, refused) refl in
         let whole : part ++ drop room rows ≡ rows = rw same (take-append-drop room rows) in
         record {
-          count-is = count ∙ rw none-shown refl;
-          more-is = more ∙ none-more;
-          rows-are = whole ∙ rw none-shown refl;
+          verdict-is = verdict ∙ sym refused;
+          rows-after = rw refused whole;
+          rows-long = ap length whole;
           words-fit = omega arith;
-          words-are = rw (words, none-shown) refl;
+          in-front = λ fine. let z : _≡_ {A = ℕ} 0 1 = cc in absurd (omega arith);
         }
 
   module _ (fine : evaluationFault p ts ≡ Fine) where
@@ -137,11 +119,11 @@ module _ (p : Plan) (ts : Tables) (selects : length (p .select) ≡ maxSelects) 
 
     same-window : window (rowList p ts) (length (selectsOf p)) from (length (take room rows)) ≡ shown
     unfolding window shownOf
-    same-window = rw (fitting, fine-rows p ts selects fine)
+    same-window = rw fitting
 
     same-more : follows (rowList p ts) (length (selectsOf p)) from (length (take room rows)) ≡ moreOf p ts from left (length rows)
     unfolding moreOf shownOf
-    same-more = rw (fitting, fine-rows p ts selects fine) (shorter (min left (length rows / p .«select_count»)) (drop from (rowList p ts)))
+    same-more = rw fitting (shorter (min left (length rows / p .«select_count»)) (drop from (rowList p ts)))
 
     shown-wide : Wide (p .«select_count») shown
     unfolding shownOf
@@ -149,11 +131,19 @@ module _ (p : Plan) (ts : Tables) (selects : length (p .select) ≡ maxSelects) 
 
     shown-few : length shown * p .«select_count» ≤ room
     unfolding shownOf
-    shown-few = mul-le-mul-right (p .«select_count») (omega (arith, length-take (min left (length rows / p .«select_count»)) (drop from (rowsOf p ts))))
+    shown-few = mul-le-mul-right (p .«select_count») (omega (arith, length-take (min left (length rows / p .«select_count»)) (drop from (rowList p ts))))
+
+    words-few : length (flat shown) ≤ length rows
+    words-few = omega (arith, flat-long shown-wide, shown-few, room-within left (p .«select_count») (length rows))
+
+    -- the buffer stays as long
+    pub rows-stay : length (filled shown rows) ≡ length rows
+    rows-stay = length-append (flat shown) (drop (length (flat shown)) rows) ∙ rw (length-drop (length (flat shown)) rows) (omega (arith, words-few))
 
     fine-fills : Answered room
-    unfolding evaluateOf bufferAfter
+    unfolding evaluateOf bufferAfter rowsAfter
     fine-fills r part f g =
+        let verdict : r .verdict ≡ Fine = rw (f, fine) refl in
         let count : r .count ≡ length shown = rw (f, fine, same-window) refl in
         let more : r .more ≡ moreOf p ts from left (length rows) = rw (f, fine) same-more in
         let long : length (flat shown) ≡ length shown * p .«select_count» = flat-long shown-wide in
@@ -161,11 +151,15 @@ module _ (p : Plan) (ts : Tables) (selects : length (p .select) ≡ maxSelects) 
         let front : part ≡ filled shown (take room rows) = rw (g, fine, same-window) refl in
         let all : part ++ drop room rows ≡ filled shown rows = rw front (rest-as-it-was (flat shown) rows room (omega (arith, shown-few)) within) in
         record {
-          count-is = count;
-          more-is = more;
-          rows-are = all;
+          verdict-is = verdict ∙ sym fine;
+          rows-after = rw fine all;
+          rows-long = ap length all ∙ rows-stay;
           words-fit = rw count (omega (arith, shown-few));
-          words-are = rw (count, all) (take-at (flat shown) (drop (length (flat shown)) rows) (length shown * p .«select_count») long);
+          in-front = λ e. record {
+            count-is = count;
+            more-is = more;
+            words-are = rw (count, all) (take-at (flat shown) (drop (length (flat shown)) rows) (length shown * p .«select_count») long);
+          };
         }
 
   pub fills : (n : ℕ) → n ≡ room → Answered n

@@ -3,7 +3,7 @@ use mathlib.Core.Path.{_≡_, refl, sym, ap, _∙_}
 use mathlib.Core.Logic.{⊎-elim}
 use mathlib.Core.Bool.{Bool, true, false, cond, false≢true}
 use mathlib.Core.List.{List, [], _++_, append-nil, append-assoc}
-use Prim.Native.Nat.{ℕ, _+_, _-_, _/_, _≤_, _<_, min}
+use Prim.Native.Nat.{ℕ, _+_, _-_, _/_, _^_, _≤_, _<_, min}
 use native.Mathlib.Nat.{eq-or-lt-of-le, min-le-right, le-div-iff-mul-le}
 use native.Mathlib.Omega.{arith}
 use borrow.Author.Tests.{lt-ltb, le-ltb, lt-leb, ne-eqb, ltb-true}
@@ -14,13 +14,13 @@ use Rattle.capacity.specs.Capacity.{maxSelects}
 use Rattle.refusal.specs.declared.Verdict.the-variants.{Fine}
 use Rattle.plan.specs.declared.Plan.{Plan}
 use Rattle.pieces.specs.Written.{largest}
-use Rattle.visits.specs.Visits.{Tables}
+use Rattle.visits.specs.Visits.{Tables, rowList}
 use Rattle.eval.specs.Evaluation.{evaluationFault}
 use Rattle.windows.specs.declared.Step.{Step}
-use Rattle.windows.specs.Windows.{rowsOf, linesOf, lastLine, rowsText, shownOf, moreOf, isLast, windowStep, windowText}
+use Rattle.windows.specs.Windows.{linesOf, lastLine, rowsText, shownOf, moreOf, isLast, windowStep, windowText}
 use Rattle.windows.proofs.Wide.{wide-take, wide-drop, lines-append}
 use Rattle.windows.proofs.InFront.{passed, rows-wide}
-use Rattle.windows.proofs.Stepped.{Goes, goes, step-last, step-on}
+use Rattle.windows.proofs.Stepped.{Goes, goes, step-last, step-on, step-numbered}
 
 -- the first of a list, where two counts take as many
 take-alike : {A : Type 0} (l : List A) (a b : ℕ) → min a (length l) ≡ min b (length l) → take a l ≡ take b l
@@ -37,8 +37,9 @@ goes-on-alike a b n e =
 abbrev pub textAfter : Plan → Tables → Step → List ℕ
 textAfter p ts s = cond (s .last) [] (rowsText p ts (s .from) (s .left))
 
--- of n rows from number `from` on, where at least one fits and each has a number: after the last window all that were to be shown are shown
-all-are-shown : (n from left fit : ℕ) → 0 < fit → from + n ≤ largest → (count : ℕ) → count ≡ min (min left fit) n
+-- of n rows from number `from` on, where at least one fits and each that is left to show has a number below 2^64: after the last window all
+-- that were to be shown are shown
+all-are-shown : (n from left fit : ℕ) → 0 < fit → left ≤ 2 ^ 64 - from → (count : ℕ) → count ≡ min (min left fit) n
     → isLast (ltb count n) count from left ≡ true → min left n ≡ count
 unfolding isLast
 all-are-shown n from left fit some numbered count e last =
@@ -56,7 +57,7 @@ module _ (p : Plan) (ts : Tables) (selects : length (p .select) ≡ maxSelects) 
   width = p .«select_count»
 
   abbrev rows : List (List ℕ)
-  rows = drop from (rowsOf p ts)
+  rows = drop from (rowList p ts)
 
   abbrev fit : ℕ
   fit = room / width
@@ -75,7 +76,7 @@ module _ (p : Plan) (ts : Tables) (selects : length (p .select) ≡ maxSelects) 
   count-is = length-take (min left fit) rows
 
   -- the last window
-  module _ (numbered : from + length rows ≤ largest) (last : isLast (moreOf p ts from left room) count from left ≡ true) where
+  module _ (numbered : left ≤ 2 ^ 64 - from) (last : isLast (moreOf p ts from left room) count from left ≡ true) where
     all-shown : min left (length rows) ≡ count
     unfolding moreOf
     all-shown = all-are-shown (length rows) from left fit some-fit numbered count count-is last
@@ -106,18 +107,18 @@ module _ (p : Plan) (ts : Tables) (selects : length (p .select) ≡ maxSelects) 
     unfolding shownOf
     first-rows = take-alike rows (min left fit) count (let c = count-is in let m = more-rows in omega arith)
 
-    rest : drop count rows ≡ drop (from + count) (rowsOf p ts)
-    rest = drop-drop count from (rowsOf p ts)
+    rest : drop count rows ≡ drop (from + count) (rowList p ts)
+    rest = drop-drop count from (rowList p ts)
 
-    split : take left rows ≡ shownOf p ts from left room ++ take (left - count) (drop (from + count) (rowsOf p ts))
+    split : take left rows ≡ shownOf p ts from left room ++ take (left - count) (drop (from + count) (rowList p ts))
     split =
         let whole : count + (left - count) ≡ left = omega (arith, going .some-left) in
         let parts = take-add count (left - count) rows in
         (rw (whole, rest) at parts) ∙ rw (← first-rows)
 
-    same-end : ltb left (length rows) ≡ ltb (left - count) (length (drop (from + count) (rowsOf p ts)))
+    same-end : ltb left (length rows) ≡ ltb (left - count) (length (drop (from + count) (rowList p ts)))
     same-end =
-        let short : length (drop (from + count) (rowsOf p ts)) ≡ length rows - count = ap length (sym rest) ∙ length-drop count rows in
+        let short : length (drop (from + count) (rowList p ts)) ≡ length rows - count = ap length (sym rest) ∙ length-drop count rows in
         rw short (later left (length rows) count (going .some-left) more-rows)
       where
         later : (a n c : ℕ) → c < a → c < n → ltb a n ≡ ltb (a - c) (n - c)
@@ -129,20 +130,23 @@ module _ (p : Plan) (ts : Tables) (selects : length (p .select) ≡ maxSelects) 
     unfolding rowsText windowText shownOf
     on-joined =
         let wide = wide-take (min left fit) (wide-drop from (rows-wide p ts selects fine)) in
-        let lines = lines-append width (shownOf p ts from left room) (take (left - count) (drop (from + count) (rowsOf p ts))) some-select wide in
+        let lines = lines-append width (shownOf p ts from left room) (take (left - count) (drop (from + count) (rowList p ts))) some-select wide in
         rw (← (step-on (moreOf p ts from left room) count from left on), split, same-end, lines, append-nil) (append-assoc (linesOf width (shownOf p ts from left room)) _ _)
 
     pub further : (from < windowStep p ts from left room .from) × (windowStep p ts from left room .left < left)
     further =
         rw (← (step-on (moreOf p ts from left room) count from left on)) (omega (arith, going .some-shown), omega (arith, going .some-shown, going .some-left))
 
-  -- the text of all rows is that of this window and of those after it, where every row has a number
-  pub joined : from ≤ largest → length (rowsOf p ts) ≤ largest → rowsText p ts from left ≡ windowText p ts from left room ++ textAfter p ts (windowStep p ts from left room)
-  joined first all = by-cases (isLast (moreOf p ts from left room) count from left) refl
-    where
-      numbered : from + length rows ≤ largest
-      numbered = omega (arith, length-drop from (rowsOf p ts))
+  -- each row that is left to show has a number
+  module _ (numbered : left ≤ 2 ^ 64 - from) where
+    -- the text of all rows is that of this window and of those after it
+    pub joined : rowsText p ts from left ≡ windowText p ts from left room ++ textAfter p ts (windowStep p ts from left room)
+    joined = by-cases (isLast (moreOf p ts from left room) count from left) refl
+      where
+        by-cases : (t : Bool) → isLast (moreOf p ts from left room) count from left ≡ t → rowsText p ts from left ≡ windowText p ts from left room ++ textAfter p ts (windowStep p ts from left room)
+        by-cases true e = last-joined numbered e
+        by-cases false e = on-joined e
 
-      by-cases : (t : Bool) → isLast (moreOf p ts from left room) count from left ≡ t → rowsText p ts from left ≡ windowText p ts from left room ++ textAfter p ts (windowStep p ts from left room)
-      by-cases true e = last-joined numbered e
-      by-cases false e = on-joined e
+    -- and so has each that is left after it
+    pub still-numbered : windowStep p ts from left room .left ≤ 2 ^ 64 - windowStep p ts from left room .from
+    still-numbered = step-numbered (moreOf p ts from left room) count from left numbered

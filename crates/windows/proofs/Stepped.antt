@@ -1,7 +1,7 @@
 -- Whether a window is the last, case by case, and how the next begins.
 use mathlib.Core.Path.{_≡_, refl, sym, ap, _∙_}
 use mathlib.Core.Bool.{Bool, true, false, not, _||_, false≢true}
-use Prim.Native.Nat.{ℕ, _+_, _-_, _≤_, _<_}
+use Prim.Native.Nat.{ℕ, _+_, _-_, _^_, _≤_, _<_}
 use native.Mathlib.Omega.{arith}
 use borrow.Author.Tests.{not-false, le-leb, lt-leb, eq-eqb, ne-eqb, leb-false, eqb-false, ltb-false}
 use lib.Dec.{leb, ltb, eqb}
@@ -65,3 +65,11 @@ module _ (more : Bool) (count from left : ℕ) where
           let on = goes g in
           let h : left - count ≡ s .left = ap (λ (x : Step). x .left) (step-on g ∙ sym e) in
           omega (arith, on .some-shown, on .some-left)
+
+  -- where each row that is left to show has a number, so has each after the window
+  pub step-numbered : left ≤ 2 ^ 64 - from → stepOf more count from left .left ≤ 2 ^ 64 - stepOf more count from left .from
+  step-numbered numbered = by-cases (isLast more count from left) refl
+    where
+      by-cases : (t : Bool) → isLast more count from left ≡ t → stepOf more count from left .left ≤ 2 ^ 64 - stepOf more count from left .from
+      by-cases true g = rw (← (step-last g)) numbered
+      by-cases false g = rw (← (step-on g)) (omega arith)

@@ -1,5 +1,7 @@
 // The rows that the program shows, window by window (docs/LAYOUT.md, "What it writes").
+use eval::Evaluated;
 use plan::Plan;
+use refusal::Verdict;
 ghost use mathlib.Core.Path.{_≡_};
 ghost use Prim.Native.Nat.{_*_, _/_, _≤_, min};
 ghost use lib.ListN.{length, take};
@@ -8,32 +10,27 @@ ghost use Rattle.reply.specs.Lines.{rowLines};
 ghost use Rattle.visits.specs.Visits.{tablesOf};
 ghost use Rattle.windows.specs.Windows.{isLast, stepOf, endText, wordBytes, Fills, Shows};
 
-// How many bytes were written, whether this window is the last, and how the next one begins: the number of its first row, and how
-// many are left to show.
+// Whether evaluation is refused; how many bytes were written, whether this window is the last, and how the next one begins: the number
+// of its first row, and how many are left to show.
 pub struct Window {
+    pub verdict: Verdict,
     pub length: usize,
     pub last: bool,
     pub from: u64,
     pub left: u64,
 }
 
-// The same without the bytes.
+// Whether it is the last, and how the next begins.
 struct Step {
     last: bool,
     from: u64,
     left: u64,
 }
 
-// How many rows lie in a buffer, and whether another follows.
-struct Filled {
-    count: usize,
-    more: bool,
-}
-
 const LARGEST: u64 = 18446744073709551615;
 
 // Write the lines of a plan's rows from number `from` on, as many as the buffer for rows has room for and at most `left`; after the
-// last window the line that says whether more follow. Where evaluation is refused there are no rows.
+// last window the line that says whether more follow. On a refusal of evaluation both buffers stay as they are.
 pub fn show<'a>(
     plan: Plan,
     aevt: &'a [u64],
@@ -46,11 +43,22 @@ pub fn show<'a>(
 ) -> Window
     ensures { λ r. ⌜ Shows plan (tablesOf (now (aevt .entry)) (now (avet .entry)) (now (eavt .entry))) from left (now (rows .entry)) (now (out .entry)) r (now (rows .exit)) (now (out .exit)) ⌝ }
 {
-    let filled = fill(plan, aevt, avet, eavt, from, left, rows);
-    let at = write_rows(rows, filled.count, plan.select_count, out);
-    let step = advance(filled.more, filled.count, from, left);
-    let length = write_end(step.last, filled.more, at, out);
+    let evaluated = fill(plan, aevt, avet, eavt, from, left, rows);
+    let verdict = evaluated.verdict;
+    if let Verdict::Refused(_) = verdict {
+        return Window {
+            verdict,
+            length: 0,
+            last: true,
+            from: 0,
+            left: 0,
+        };
+    }
+    let at = write_rows(rows, evaluated.count, plan.select_count, out);
+    let step = advance(evaluated.more, evaluated.count, from, left);
+    let length = write_end(step.last, evaluated.more, at, out);
     Window {
+        verdict: Verdict::Fine,
         length,
         last: step.last,
         from: step.from,
@@ -67,15 +75,11 @@ fn fill<'a>(
     from: u64,
     left: u64,
     rows: &mut [u64],
-) -> Filled
-    ensures { λ r. ⌜ Fills plan (tablesOf (now (aevt .entry)) (now (avet .entry)) (now (eavt .entry))) from left (now (rows .entry)) (r .count) (r .more) (now (rows .exit)) ⌝ }
+) -> Evaluated
+    ensures { λ r. ⌜ Fills plan (tablesOf (now (aevt .entry)) (now (avet .entry)) (now (eavt .entry))) from left (now (rows .entry)) r (now (rows .exit)) ⌝ }
 {
     let room = room_for(left, plan.select_count, rows.len());
-    let evaluated = eval::evaluate(plan, aevt, avet, eavt, from, &mut rows[..room]);
-    Filled {
-        count: evaluated.count,
-        more: evaluated.more,
-    }
+    eval::evaluate(plan, aevt, avet, eavt, from, &mut rows[..room])
 }
 
 // The words of as many whole rows as fit, and of at most so many.

@@ -1,15 +1,17 @@
--- `main` is safe: the parts are as long as they say.
+-- `main` is safe: the numbers that were read lie within their buffer.
 use mathlib.Core.Path.{sym}
+use native.Mathlib.Omega.{arith}
 use lib.Seq.{length-take-le}
+use Rattle.ask_answer.proofs.Reading.{count-within}
 use borrow.Author.Needs.{needs}
 use Rattle.ask.proofs.main.Statement.{statement}
 use Rattle.ask.proofs.main.Tie as tie
 
-slice-aggregate-read : tie.Need-slice-aggregate-read
-slice-aggregate-read c = sym (length-take-le _ _ (search needs))
+array-share-prefix-words : tie.Need-array-share-prefix-words
+array-share-prefix-words c = omega (arith, count-within (c .before .read-question .ensures))
 
 slice-aggregate-put-answer : tie.Need-slice-aggregate-put-answer
-slice-aggregate-put-answer c = sym (length-take-le _ _ (search needs))
+slice-aggregate-put-answer c = sym (length-take-le _ _ (omega (arith, count-within (c .before .before .read-question .ensures))))
 
 pub main-spec : {M : Type 1} → statement M
 main-spec =
@@ -19,12 +21,11 @@ main-spec =
     (λ c. search needs)
     (λ c κs. search needs)
     (λ c κs. search needs)
+    (λ c. search needs)
+    (λ c. search needs)
+    (λ c. search needs)
     (λ c κs. search needs)
-    (λ c. search needs)
-    slice-aggregate-read
-    (λ c. search needs)
-    (λ c κs. search needs)
-    (λ c. search needs)
+    array-share-prefix-words
     slice-aggregate-put-answer
     (λ c. search needs)
     (λ c κs. search needs)

@@ -2,7 +2,7 @@
 use mathlib.Core.Path.{sym}
 use Prim.Native.Nat.{ℕ}
 use lib.ListN.{length-replicate}
-use Rattle.ask.specs.Capacity.{textBytes}
+use Rattle.ask_answer.specs.Capacity.{textBytes}
 use Rattle.ask.proofs.text_buffer.Statement.{statement}
 use Rattle.ask.proofs.text_buffer.Tie as tie
 

@@ -1,12 +1,14 @@
 -- `evaluation_fault` meets its contract: the parts are the tables.
-use mathlib.Core.Path.{_∙_}
-use Rattle.opening.proofs.Said.{over-tables}
+use mathlib.Core.Path.{ap, _∙_}
+use Rattle.eval.specs.Evaluation.{evaluationFault}
+use Rattle.opening.proofs.Said.{tables-are}
 use borrow.Author.Needs.{needs}
 use Rattle.opening.proofs.evaluation_fault.Statement.{statement}
 use Rattle.opening.proofs.evaluation_fault.Tie as tie
 
 returns : tie.Need-returns
-returns c = c .check .ensures ∙ over-tables _ _ _ _ _ _ (c .before .before .before .before .before .before .before .find-parts .ensures) (c .before .before .before .items .ensures) (c .before .before .items2 .ensures) (c .before .items3 .ensures)
+returns c =
+    c .check .ensures ∙ ap (evaluationFault _) (tables-are _ _ _ _ _ (c .before .before .before .before .before .before .before .find-parts .ensures) (c .before .before .before .items .ensures) (c .before .before .items2 .ensures) (c .before .items3 .ensures))
 
 pub evaluation-fault-spec : {M : Type 1} → statement M
 evaluation-fault-spec =

@@ -1,0 +1,4 @@
+pub mod Reading
+pub mod Handed
+pub mod Theorem
+pub mod OneAnswer

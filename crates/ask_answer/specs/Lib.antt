@@ -1,0 +1,4 @@
+pub mod Capacity
+pub mod Answer
+pub mod Parts
+pub mod Run
