@@ -5,7 +5,8 @@ use mathlib.Core.Bool.{Bool, true, false, _||_, or-false}
 use Rattle.plan.specs.declared.Scan.{Scan}
 use Rattle.plan.specs.declared.Index.{Index}
 use Rattle.cost.specs.declared.Seen.{Seen}
-use Rattle.cost.specs.Cost.{sameIndex, sameKey, indexUsed, keyUsed}
+use Rattle.plan.specs.Plan.{sameIndex}
+use Rattle.cost.specs.Cost.{sameKey, indexUsed, keyUsed}
 use Rattle.cost.specs.Seen.{seenWith}
 
 abbrev pub seenOf : Scan → List Scan → Seen

@@ -13,19 +13,8 @@ use Rattle.plan.specs.declared.Index.{Index}
 use Rattle.plan.specs.declared.Index.the-variants.{Aevt, Avet, Eavt}
 use Rattle.plan.specs.declared.Flow.{Flow}
 use Rattle.plan.specs.declared.Flow.the-variants.{OutOut, InOut, InIn}
-use Rattle.plan.specs.Plan.{scansOf, scanFlowsFault, flowsFault}
+use Rattle.plan.specs.Plan.{sameIndex, scansOf, scanFlowsFault, flowsFault}
 use Rattle.cost.specs.declared.Costed.{Costed}
-
-abbrev pub sameIndex : Index → Index → Bool
-sameIndex Aevt Aevt = true
-sameIndex Aevt Avet = false
-sameIndex Aevt Eavt = false
-sameIndex Avet Aevt = false
-sameIndex Avet Avet = true
-sameIndex Avet Eavt = false
-sameIndex Eavt Aevt = false
-sameIndex Eavt Avet = false
-sameIndex Eavt Eavt = true
 
 -- eavt goes by the entity slot, aevt and avet by the attribute
 abbrev pub sameBy : Index → Scan → Scan → Bool

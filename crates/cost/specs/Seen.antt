@@ -2,7 +2,8 @@
 use mathlib.Core.Bool.{_||_}
 use Rattle.plan.specs.declared.Scan.{Scan}
 use Rattle.cost.specs.declared.Seen.{Seen}
-use Rattle.cost.specs.Cost.{sameIndex, sameKey}
+use Rattle.plan.specs.Plan.{sameIndex}
+use Rattle.cost.specs.Cost.{sameKey}
 
 -- with one more
 abbrev pub seenWith : Seen → Scan → Scan → Seen

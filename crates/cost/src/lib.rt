@@ -20,7 +20,8 @@ ghost use mathlib.Core.List.{[]};
 ghost use mathlib.Core.Bool.{_||_};
 ghost use lib.ListN.{take};
 ghost use Rattle.capacity.specs.Capacity.{maxScans};
-ghost use Rattle.cost.specs.Cost.{sameIndex, sameKey, penaltyFor, itersOf, weighedFrom, costOfScans, costOf};
+ghost use Rattle.plan.specs.Plan.{sameIndex};
+ghost use Rattle.cost.specs.Cost.{sameKey, penaltyFor, itersOf, weighedFrom, costOfScans, costOf};
 ghost use Rattle.cost.specs.Seen.{seenWith};
 
 // The answer of `cost`: 0 where it is refused.

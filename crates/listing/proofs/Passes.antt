@@ -48,14 +48,14 @@ same-over s x e n = record { flows = e; entities = refl; attributes = refl; valu
 same-cycle : (f : Flow) (x : Index) (e : Slot) (a : Aid) (v : Slot) →
     let s : Scan = record { index = x; flow = f; entity = e; attribute = a; value = v } in Each (SameAccesses s) (cycleOf s)
 same-cycle OutOut Aevt e a v = one (same-over _ _ refl refl) (one (same-over _ _ refl refl) nil)
-same-cycle InIn Aevt e a v = one (same-over _ _ refl refl) (one (same-over _ _ refl refl) (one (same-over _ _ refl refl) nil))
-same-cycle InOut Aevt e a v = one (same-over _ _ refl refl) (one (same-over _ _ refl refl) nil)
-same-cycle InOut Avet e a v = one (same-over _ _ refl refl) nil
-same-cycle OutOut Avet e a v = nil
+same-cycle OutOut Avet e a v = one (same-over _ _ refl refl) (one (same-over _ _ refl refl) nil)
 same-cycle OutOut Eavt e a v = nil
-same-cycle InIn Avet e a v = nil
-same-cycle InIn Eavt e a v = nil
-same-cycle InOut Eavt e a v = nil
+same-cycle InIn Aevt e a v = one (same-over _ _ refl refl) (one (same-over _ _ refl refl) (one (same-over _ _ refl refl) nil))
+same-cycle InIn Avet e a v = one (same-over _ _ refl refl) (one (same-over _ _ refl refl) (one (same-over _ _ refl refl) nil))
+same-cycle InIn Eavt e a v = one (same-over _ _ refl refl) (one (same-over _ _ refl refl) (one (same-over _ _ refl refl) nil))
+same-cycle InOut Aevt e a v = one (same-over _ _ refl refl) (one (same-over _ _ refl refl) nil)
+same-cycle InOut Eavt e a v = one (same-over _ _ refl refl) (one (same-over _ _ refl refl) nil)
+same-cycle InOut Avet e a v = one (same-over _ _ refl refl) nil
 
 -- scans and the combinations of their cycles
 same-before : (s : Scan) (ss xs : List Scan) (ls : List (List Scan)) → Each (SameAccesses s) xs → Each (SameScans ss) ls → Each (SameScans (s ∷ ss)) (before xs ls)

@@ -6,22 +6,8 @@ use mathlib.Core.Bool.{Bool, true, false}
 use lib.ListN.{length, getD}
 use Rattle.plan.specs.declared.Scan.{Scan}
 use Rattle.plan.specs.declared.Index.{Index}
-use Rattle.plan.specs.declared.Index.the-variants.{Aevt, Avet, Eavt}
-use Rattle.plan.specs.declared.Flow.{Flow}
-use Rattle.plan.specs.declared.Flow.the-variants.{OutOut, InOut, InIn}
-use Rattle.listing.specs.Next.{nextScans, isNewScans}
-
--- the cycle that begins with an index: out-out aevt, avet; in-in aevt, avet, eavt; in-out aevt, eavt; in-out avet alone. None begins elsewhere
-abbrev pub cycle : Flow → Index → List Index
-cycle OutOut Aevt = Aevt ∷ Avet ∷ []
-cycle InIn Aevt = Aevt ∷ Avet ∷ Eavt ∷ []
-cycle InOut Aevt = Aevt ∷ Eavt ∷ []
-cycle InOut Avet = Avet ∷ []
-cycle OutOut Avet = []
-cycle OutOut Eavt = []
-cycle InIn Avet = []
-cycle InIn Eavt = []
-cycle InOut Eavt = []
+use Rattle.plan.specs.Plan.{sameIndex}
+use Rattle.listing.specs.Next.{cycle, nextScans, isNewScans}
 
 -- a scan over another index
 abbrev pub over : Scan → Index → Scan
@@ -47,7 +33,7 @@ isInitial s = begins (cycle (s .flow) (s .index))
   where
     begins : List Index → Bool
     begins [] = false
-    begins (x ∷ xs) = true
+    begins (x ∷ xs) = sameIndex (s .index) x
 
 abbrev pub Initial : List Scan → Type 0
 Initial ss = (j : ℕ) → j < length ss → (d : Scan) → isInitial (getD ss j d) ≡ true

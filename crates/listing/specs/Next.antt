@@ -11,33 +11,42 @@ use Rattle.plan.specs.declared.Index.{Index}
 use Rattle.plan.specs.declared.Index.the-variants.{Aevt, Avet, Eavt}
 use Rattle.plan.specs.declared.Flow.{Flow}
 use Rattle.plan.specs.declared.Flow.the-variants.{OutOut, InOut, InIn}
-use Rattle.plan.specs.Plan.{scansOf, scanFlowsFault, flowsFault}
+use Rattle.plan.specs.Plan.{sameIndex, scansOf, scanFlowsFault, flowsFault}
 use Rattle.listing.specs.declared.NextPlan.{NextPlan}
 use Rattle.listing.specs.declared.NextScans.{NextScans}
 
--- cycles: out-out aevt, avet; in-in aevt, avet, eavt; in-out aevt, eavt; in-out avet alone. The next index of the cycle
-abbrev pub nextIndex : Flow → Index → Index
-nextIndex OutOut Aevt = Avet
-nextIndex OutOut Avet = Aevt
-nextIndex OutOut Eavt = Eavt
-nextIndex InIn Aevt = Avet
-nextIndex InIn Avet = Eavt
-nextIndex InIn Eavt = Aevt
-nextIndex InOut Aevt = Eavt
-nextIndex InOut Eavt = Aevt
-nextIndex InOut Avet = Avet
+-- cycles: out-out aevt, avet; in-in aevt, avet, eavt; in-out aevt, eavt; in-out avet alone. The one that an index is of, from its first on;
+-- out-out over eavt is refused, and of none
+abbrev pub cycle : Flow → Index → List Index
+cycle OutOut Aevt = Aevt ∷ Avet ∷ []
+cycle OutOut Avet = Aevt ∷ Avet ∷ []
+cycle OutOut Eavt = []
+cycle InIn x = Aevt ∷ Avet ∷ Eavt ∷ []
+cycle InOut Aevt = Aevt ∷ Eavt ∷ []
+cycle InOut Eavt = Aevt ∷ Eavt ∷ []
+cycle InOut Avet = Avet ∷ []
 
--- whether that is a new one, and not the first again
+-- the indexes that come after one in a list
+abbrev pub after : Index → List Index → List Index
+after x [] = []
+after x (y ∷ ys) = cond (sameIndex x y) ys (after x ys)
+
+-- the first of a list; where it has none, x
+abbrev pub firstOr : Index → List Index → Index
+firstOr x [] = x
+firstOr x (y ∷ ys) = y
+
+abbrev pub hasSome : List Index → Bool
+hasSome [] = false
+hasSome (y ∷ ys) = true
+
+-- the next index of the cycle: the one after it, and after the last the first again
+abbrev pub nextIndex : Flow → Index → Index
+nextIndex f x = firstOr x (after x (cycle f x) ++ cycle f x)
+
+-- it is new where it is not the first again
 abbrev pub isNewIndex : Flow → Index → Bool
-isNewIndex OutOut Aevt = true
-isNewIndex OutOut Avet = false
-isNewIndex OutOut Eavt = false
-isNewIndex InIn Aevt = true
-isNewIndex InIn Avet = true
-isNewIndex InIn Eavt = false
-isNewIndex InOut Aevt = true
-isNewIndex InOut Eavt = false
-isNewIndex InOut Avet = false
+isNewIndex f x = hasSome (after x (cycle f x))
 
 abbrev pub nextScan : Scan → Scan
 nextScan s = record { index = nextIndex (s .flow) (s .index); flow = s .flow; entity = s .entity; attribute = s .attribute; value = s .value }

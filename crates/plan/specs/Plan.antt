@@ -100,6 +100,18 @@ zeroScan = record { index = Aevt; flow = OutOut; entity = zeroSlot; attribute = 
 abbrev pub variableSlot : SlotRecord
 variableSlot = record { definition = Variable }
 
+-- two indexes are the same
+abbrev pub sameIndex : Index → Index → Bool
+sameIndex Aevt Aevt = true
+sameIndex Aevt Avet = false
+sameIndex Aevt Eavt = false
+sameIndex Avet Aevt = false
+sameIndex Avet Avet = true
+sameIndex Avet Eavt = false
+sameIndex Eavt Aevt = false
+sameIndex Eavt Avet = false
+sameIndex Eavt Eavt = true
+
 -- the empty plan, all zeros
 abbrev pub emptyPlan : Plan
 emptyPlan = record {
