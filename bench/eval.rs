@@ -5,6 +5,8 @@ mod eval;
 #[path = "../target/bench/plan.rs"]
 mod plan;
 
+#[path = "../compare/capacity.rs"]
+mod capacity;
 #[path = "../compare/database.rs"]
 mod database;
 #[path = "../compare/datom.rs"]

@@ -7,6 +7,8 @@ mod plan;
 #[path = "../target/bench/planner.rs"]
 mod planner;
 
+#[path = "../compare/capacity.rs"]
+mod capacity;
 #[path = "../compare/datom.rs"]
 mod datom;
 #[path = "../compare/query.rs"]

@@ -10,6 +10,7 @@ mod planner;
 #[path = "../target/compare/permutation.rs"]
 mod permutation;
 
+mod capacity;
 mod database;
 mod datom;
 mod held;

@@ -9,6 +9,7 @@ mod plan;
 #[path = "../target/compare/planner.rs"]
 mod planner;
 
+mod capacity;
 mod database;
 mod datom;
 mod held;
@@ -20,6 +21,7 @@ mod random;
 mod rust_plan;
 mod table_cases;
 
+use capacity::{ELEMENTS, SELECTS, SLOTS, STATEMENTS};
 use database::{heap, store, tables, View};
 use datom::Tid;
 use eval::Evaluator;
@@ -150,9 +152,9 @@ fn both_on_one_slot() {
 fn planned_by_000() {
     let e0 = (0, 5, false, 1);
     let refused = vec![
-        (10, query_cases::chain(49, 0)),
-        (11, query_cases::case(97, &[e0], &[0])),
-        (12, query_cases::case(2, &[e0], &[0; 33])),
+        (10, query_cases::chain(STATEMENTS + 1, 0)),
+        (11, query_cases::case(SLOTS as u64 + 1, &[e0], &[0])),
+        (12, query_cases::case(2, &[e0], &[0; SELECTS + 1])),
         (13, query_cases::case(2, &[e0], &[])),
         (15, query_cases::case(3, &[e0], &[0])),
     ];
@@ -167,8 +169,9 @@ fn planned_by_000() {
 
 // The rest: a cost past 2^64 - 1 wraps (01's nine scans, and one more); a plan of no scans and a selected constant's name panic.
 fn the_rest() {
-    assert_eq!(Permutations::new(49).next(), Some((0, 1)));
-    assert_eq!(written(&held::case(SWAPS, "0 49 1")).lines().last(), Some("none abcdefghijklmnopqrstuvwxyzabcdefghijklmnopqrstuv"));
+    assert_eq!(Permutations::new(ELEMENTS + 1).next(), Some((0, 1)));
+    let order: String = (0..ELEMENTS).map(|i| (b'a' + (i % 26) as u8) as char).collect();
+    assert_eq!(written(&held::case(SWAPS, &format!("0 {} 1", ELEMENTS + 1))).lines().last(), Some(&format!("none {}", order)[..]));
     let ten = out_out(10);
     let cost: u128 = 20 + 100 * (1050505050505050520 - 20 + 5);
     assert_eq!(rust(&ten).cost(), cost as u64);

@@ -6,6 +6,7 @@ mod eval;
 #[path = "../target/compare/plan.rs"]
 mod plan;
 
+mod capacity;
 mod database;
 mod datom;
 mod held;
@@ -14,6 +15,7 @@ mod random;
 mod rust_plan;
 mod table_cases;
 
+use capacity::{SCANS, SELECTS, SLOTS};
 use database::{heap, store, View};
 use datom::Tid;
 use eval::Evaluator;
@@ -222,13 +224,13 @@ fn damaged_plans() -> Vec<((u64, u64), Case)> {
     };
     vec![
         // 20 at each count, at the largest number, and before 13
-        ((20, 0), changed(&|c| c.slot_count = 97)),
-        ((20, 0), changed(&|c| c.scan_count = 49)),
-        ((20, 0), changed(&|c| c.select_count = 33)),
+        ((20, 0), changed(&|c| c.slot_count = SLOTS as u64 + 1)),
+        ((20, 0), changed(&|c| c.scan_count = SCANS as u64 + 1)),
+        ((20, 0), changed(&|c| c.select_count = SELECTS as u64 + 1)),
         ((20, 0), changed(&|c| c.slot_count = LARGEST)),
         ((20, 0), changed(&|c| c.scan_count = LARGEST)),
         ((20, 0), changed(&|c| c.select_count = LARGEST)),
-        ((20, 0), changed(&|c| { unselected(c); c.slot_count = 97 })),
+        ((20, 0), changed(&|c| { unselected(c); c.slot_count = SLOTS as u64 + 1 })),
         // 13, and before 21
         ((13, 0), changed(&|c| unselected(c))),
         ((13, 0), changed(&|c| { unselected(c); c.scans[0].0 = 2 })),

@@ -1,10 +1,7 @@
 // Plans for drawn and made cases, as the numbers that the Rattle reads, and the plan check, read off document 01's table independently
 // of the Rattle.
+use capacity::{SCANS, SELECTS, SLOTS};
 use random::Random;
-
-pub const SCANS: usize = 48;
-pub const SLOTS: usize = 96;
-pub const SELECTS: usize = 32;
 
 // Index, flow, entity, attribute, value.
 pub type Scan = (usize, usize, u16, u64, u16);
@@ -152,7 +149,8 @@ fn sound_of(random: &mut Random, most: u64) -> Case {
 // One thing of it changed.
 pub fn damaged(random: &mut Random) -> Case {
     let mut c = sound(random);
-    let claimed = [0, 31, 32, 33, 47, 48, 49, 96, 97, u64::max_value()];
+    let around = |most: usize| vec![most as u64 - 1, most as u64, most as u64 + 1];
+    let claimed: Vec<u64> = [vec![0], around(SELECTS), around(SCANS), vec![SLOTS as u64, SLOTS as u64 + 1, u64::max_value()]].concat();
     match random.below(9) {
         0 => c.select_count = claimed[random.below(3) as usize],
         1 => c.slot_count = claimed[6 + random.below(4) as usize],
@@ -210,7 +208,7 @@ fn wild(random: &mut Random) -> Case {
     wild
 }
 
-// A plan of any of these kinds, or a sound one of up to 48 scans.
+// A plan of any of these kinds, or a sound one of up to as many scans as there may be.
 pub fn drawn(random: &mut Random) -> Case {
     match random.below(8) {
         0 | 1 | 2 => sound(random),

@@ -8,6 +8,7 @@ mod plan;
 #[path = "../target/compare/planner.rs"]
 mod planner;
 
+mod capacity;
 mod plan_cases;
 mod datom;
 mod held;
@@ -16,9 +17,10 @@ mod query;
 mod random;
 mod rust_plan;
 
+use capacity::{SCANS, SELECTS, SLOTS};
 use held::{drive, Pair, PLANS, PLAN_PARTS};
 use plan::EntityValueFlow;
-use plan_cases::{case, check, counts_fault, damaged, drawn, e, in_order, numbers, out_out, sound, text, Case, Scan, Verdict, SCANS};
+use plan_cases::{case, check, counts_fault, damaged, drawn, e, in_order, numbers, out_out, sound, text, Case, Scan, Verdict};
 use plan_line::index_text;
 use planner::Planner;
 use random::Random;
@@ -195,7 +197,7 @@ fn cases() -> Vec<Case> {
     all.push(case(vec![], vec![], vec![0]));
     // 001's slip at its smallest
     all.push(case(vec![(0, 2, 0, 0, 1)], vec![(true, 7), (true, 8)], vec![0]));
-    for n in vec![1, 9, 10, 11, 38, 39, 48] {
+    for n in vec![1, 9, 10, 11, 38, 39, SCANS] {
         all.push(out_out(n));
     }
     // costs of 2^64 - 1 and of 2^64, and of the next above
@@ -209,7 +211,7 @@ fn cases() -> Vec<Case> {
         c
     };
     all.push(change(&|c| { c.select.clear(); c.select_count = 0 }));
-    for (count, over) in vec![(0, 49), (1, 97), (2, 33), (0, u64::max_value()), (1, u64::max_value()), (2, u64::max_value())] {
+    for (count, over) in vec![(0, SCANS as u64 + 1), (1, SLOTS as u64 + 1), (2, SELECTS as u64 + 1), (0, u64::max_value()), (1, u64::max_value()), (2, u64::max_value())] {
         all.push(change(&|c| *[&mut c.scan_count, &mut c.slot_count, &mut c.select_count][count] = over));
     }
     all.push(change(&|c| c.scans[0].0 = 2));

@@ -6,6 +6,7 @@ mod plan;
 #[path = "../target/compare/planner.rs"]
 mod planner;
 
+mod capacity;
 mod datom;
 mod held;
 mod plan_cases;
@@ -14,6 +15,7 @@ mod query;
 mod query_cases;
 mod random;
 
+use capacity::{SELECTS, SLOTS, STATEMENTS};
 use held::{drive, Pair, QUERIES, QUERY_CHECKS};
 use plan::Plan;
 use plan_line::{index_text, plan_text};
@@ -63,18 +65,19 @@ fn all_cases() -> Vec<Case> {
     all.push(case(1, &[(0, 5, false, 0)], &[0]));
     all.push(case(2, &[(0, 5, false, 1), (0, 7, false, 0)], &[0]));
     all.push(case(2, &[(0, 7, false, 0), (0, 5, false, 1)], &[0]));
-    // 48 and 49 statements; 96 and 97 slots; 32 and 33 selects; none; no statements; as many variables as there are numbers
-    all.push(chain(48, 0));
-    all.push(chain(49, 0));
-    all.push(chain(47, 1));
-    all.push(case(2, &[e[0]; 48], &[1; 32]));
-    all.push(case(2, &[e[0]; 48], &[1; 33]));
-    let mut many: Vec<_> = (0..48).map(|i| (2 * i, 5, false, 2 * i as u64 + 1)).collect();
-    all.push(case(96, &many, &[95]));
-    many[47].2 = true;
-    all.push(case(96, &many, &[95]));
-    all.push(case(95, &many, &[94]));
-    all.push(case(97, &many, &[0]));
+    // statements, slots and selects at the capacity and one past it; none; no statements; as many variables as there are numbers
+    all.push(chain(STATEMENTS, 0));
+    all.push(chain(STATEMENTS + 1, 0));
+    all.push(chain(STATEMENTS - 1, 1));
+    all.push(case(2, &[e[0]; STATEMENTS], &[1; SELECTS]));
+    all.push(case(2, &[e[0]; STATEMENTS], &[1; SELECTS + 1]));
+    let slots = SLOTS as u16;
+    let mut many: Vec<_> = (0..slots / 2).map(|i| (2 * i, 5, false, 2 * i as u64 + 1)).collect();
+    all.push(case(slots as u64, &many, &[slots - 1]));
+    many.last_mut().unwrap().2 = true;
+    all.push(case(slots as u64, &many, &[slots - 1]));
+    all.push(case(slots as u64 - 1, &many, &[slots - 2]));
+    all.push(case(slots as u64 + 1, &many, &[0]));
     all.push(case(2, &e, &[]));
     all.push(case(0, &[], &[0]));
     all.push(case(1, &[], &[0]));

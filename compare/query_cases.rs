@@ -1,12 +1,11 @@
 // Queries for drawn and made cases, as the numbers that the Rattle reads, and what planning refuses, read off document 01's table
 // independently of the Rattle.
+use capacity::{SELECTS, STATEMENTS};
 use datom::{Aid, Value};
 use query::{Query, QueryAttribute, QueryValue, Statement, Var};
 use random::Random;
 
-const STATEMENTS: usize = 48;
-const SLOTS: u64 = 96;
-const SELECTS: usize = 32;
+const SLOTS: u64 = ::capacity::SLOTS as u64;
 
 // A query as the Rattle has it. A statement is (entity, attribute, is constant, variable or constant).
 #[derive(Clone)]
@@ -133,8 +132,8 @@ pub fn dense(random: &mut Random) -> Case {
 
 // A query of numbers at the ends of what they can be.
 fn wild(random: &mut Random) -> Case {
-    let variables = [0, 1, 2, 3, 3, 3, 3, 96, 97, 65535, 65536, u64::max_value()][random.below(12) as usize];
-    let variable = |random: &mut Random| [0, 1, 2, 0, 1, 2, 0, 3, 95, 96, 65535][random.below(11) as usize];
+    let variables = [0, 1, 2, 3, 3, 3, 3, SLOTS, SLOTS + 1, 65535, 65536, u64::max_value()][random.below(12) as usize];
+    let variable = |random: &mut Random| [0, 1, 2, 0, 1, 2, 0, 3, SLOTS as u16 - 1, SLOTS as u16, 65535][random.below(11) as usize];
     let number = |random: &mut Random| [0, 1, u64::max_value()][random.below(3) as usize];
     let statements = (0..random.below(7))
         .map(|_| {
@@ -154,7 +153,7 @@ fn full(random: &mut Random) -> Case {
     let statements = (0..n)
         .map(|i| (i as u16 % variables as u16, random.below(4), i < constants, random.below(variables)))
         .collect();
-    let selects = [1, 2, 31, 32, 33][random.below(5) as usize];
+    let selects = [1, 2, SELECTS - 1, SELECTS, SELECTS + 1][random.below(5) as usize];
     Case { variables: variables, statements: statements, select: (0..selects).map(|_| random.below(variables) as u16).collect() }
 }
 

@@ -8,6 +8,7 @@ mod plan;
 #[path = "../target/compare/planner.rs"]
 mod planner;
 
+mod capacity;
 mod datom;
 mod held;
 mod plan_line;
@@ -15,14 +16,13 @@ mod query;
 mod query_cases;
 mod random;
 
+use capacity::{SEARCHED, STATEMENTS};
 use held::{drive, Pair, SEARCHES};
 use permutation::Permutations;
 use plan_line::plan_text;
 use planner::Planner;
 use query_cases::{bound_twice, case, chain, numbers, query_refusal, Case};
 use random::Random;
-
-const SEARCHED: usize = 6;
 
 // The order, the plan as text and the cost of the first plan of least cost.
 fn cheapest(case: &Case) -> Option<(Vec<usize>, String, u64)> {
@@ -74,19 +74,19 @@ fn all_cases() -> Vec<Case> {
     all.push(case(1, &[(0, 5, false, 0)], &[0]));
     all.push(case(2, &[(0, 7, false, 0), (0, 5, false, 1)], &[0]));
     all.push(case(2, &[(0, 5, false, 1), (0, 7, false, 0)], &[0]));
-    // six and seven statements, 48 and 49; the most plans; no statements; refusals before 17
-    all.push(chain(6, 0));
-    all.push(chain(7, 0));
-    all.push(chain(3, 3));
-    all.push(chain(48, 0));
-    all.push(chain(49, 0));
-    let pair: Vec<_> = (0..6).map(|i| (0, i, false, 1)).collect();
+    // as many statements as are searched, and one more; as many as fit, and one more; the most plans; no statements; refusals before 17
+    all.push(chain(SEARCHED, 0));
+    all.push(chain(SEARCHED + 1, 0));
+    all.push(chain(SEARCHED / 2, SEARCHED / 2));
+    all.push(chain(STATEMENTS, 0));
+    all.push(chain(STATEMENTS + 1, 0));
+    let pair: Vec<_> = (0..SEARCHED as u64).map(|i| (0, i, false, 1)).collect();
     all.push(case(2, &pair, &[1]));
     all.push(case(2, &pair, &[1, 0]));
     all.push(case(0, &[], &[0]));
     all.push(case(2, &e, &[]));
     all.push(case(u64::max_value(), &e, &[1]));
-    all.push(case(8, &chain(7, 0).statements, &[8]));
+    all.push(case(SEARCHED as u64 + 2, &chain(SEARCHED + 1, 0).statements, &[SEARCHED as u16 + 2]));
     let mut source = Random(20260111);
     for _ in 0..400 {
         all.push(query_cases::random(&mut source));

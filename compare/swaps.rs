@@ -1,16 +1,16 @@
 // Makes cases for crates/swaps and the answers to them, by the Rust of 005 (compare/run says how it is built). 005 has no capacity: the
-// two refusals are 01's, 40 at 0 for more than 48 elements.
+// two refusals are 01's, 40 at 0 for more elements than there is room for.
 #[path = "../target/compare/permutation.rs"]
 mod permutation;
 
+mod capacity;
 mod held;
 mod random;
 
+use capacity::ELEMENTS;
 use held::{drive, Pair, SWAPS};
 use permutation::Permutations;
 use random::Random;
-
-const MAX_ELEMENTS: usize = 48;
 
 // Swaps of some elements from the first on, so many steps; or a state, of its counters, elements and position.
 enum Case {
@@ -43,10 +43,10 @@ fn next_text(next: Option<(usize, usize)>) -> String {
 }
 
 fn listing(n: usize, steps: usize) -> String {
-    let mut order: Vec<char> = (0..MAX_ELEMENTS.min(n)).map(|j| (b'a' + (j % 26) as u8) as char).collect();
+    let mut order: Vec<char> = (0..ELEMENTS.min(n)).map(|j| (b'a' + (j % 26) as u8) as char).collect();
     let text = |order: &[char]| order.iter().collect::<String>();
     // A refused state is that of no elements: its steps give none, and no element is named.
-    let refused = n > MAX_ELEMENTS;
+    let refused = n > ELEMENTS;
     let mut out = format!("{} {}\n", if refused { "refused 40 at 0" } else { "fresh" }, text(&order));
     let mut permutations = Permutations::new(if refused { 0 } else { n });
     for _ in 0..steps {
@@ -64,7 +64,7 @@ fn four_steps(ks: &[usize], n: usize, i: usize) -> String {
         let counters: String = ks.iter().map(|k| format!(" {}", k)).collect();
         format!("counters{} position {}", counters, i)
     };
-    if n > MAX_ELEMENTS {
+    if n > ELEMENTS {
         return format!("refused 40 at 0 {}\n", state(ks, i)).repeat(4);
     }
     let mut permutations = Permutations::damaged(ks[..n].to_vec(), i);
@@ -86,21 +86,21 @@ fn damaged(x: usize) -> (Case, usize) {
     let n = next_drawn(x);
     let i = next_drawn(n);
     let mut k = i;
-    let ks = (0..MAX_ELEMENTS)
+    let ks = (0..ELEMENTS)
         .map(|j| {
             k = next_drawn(k);
             k % (j + 2)
         })
         .collect();
-    (Case::State(ks, n % (MAX_ELEMENTS + 2), i % (MAX_ELEMENTS + 4)), k)
+    (Case::State(ks, n % (ELEMENTS + 2), i % (ELEMENTS + 4)), k)
 }
 
 fn cases() -> Vec<Case> {
-    let listings = [(0, 2), (1, 2), (2, 3), (3, 7), (4, 25), (5, 121), (MAX_ELEMENTS, 9), (MAX_ELEMENTS + 1, 2)];
+    let listings = [(0, 2), (1, 2), (2, 3), (3, 7), (4, 25), (5, 121), (ELEMENTS, 9), (ELEMENTS + 1, 2)];
     let mut all: Vec<Case> = listings.iter().map(|l| Case::Listing(l.0, l.1)).collect();
-    all.push(Case::State(vec![usize::max_value(); MAX_ELEMENTS], 4, 0));
-    all.push(Case::State(vec![2; MAX_ELEMENTS], MAX_ELEMENTS, usize::max_value()));
-    all.push(Case::State(vec![1; MAX_ELEMENTS], usize::max_value(), 3));
+    all.push(Case::State(vec![usize::max_value(); ELEMENTS], 4, 0));
+    all.push(Case::State(vec![2; ELEMENTS], ELEMENTS, usize::max_value()));
+    all.push(Case::State(vec![1; ELEMENTS], usize::max_value(), 3));
     let mut x = 1;
     for _ in 0..60 {
         let (case, next) = damaged(x);
@@ -115,17 +115,17 @@ fn drawn(random: &mut Random) -> Case {
     let m = usize::max_value();
     let mut below = |n: usize| random.below(n as u64) as usize;
     if below(50) == 0 {
-        return Case::Listing([below(8), MAX_ELEMENTS - below(3), MAX_ELEMENTS + below(3), m][below(4)], below(300));
+        return Case::Listing([below(8), ELEMENTS - below(3), ELEMENTS + below(3), m][below(4)], below(300));
     }
-    let n = if below(20) == 0 { m - below(2) } else { below(MAX_ELEMENTS + 2) };
+    let n = if below(20) == 0 { m - below(2) } else { below(ELEMENTS + 2) };
     let i = match below(20) {
         0 => m - below(2),
         1...10 => 0,
-        _ => below(MAX_ELEMENTS + 4),
+        _ => below(ELEMENTS + 4),
     };
     // With counters as high as they get a step goes far.
     let most = below(3);
-    let ks = (0..MAX_ELEMENTS)
+    let ks = (0..ELEMENTS)
         .map(|j| match below(40) {
             0 => m - below(2),
             _ if most == 0 => j,

@@ -4,12 +4,14 @@
 #[path = "../target/compare/plan.rs"]
 mod plan;
 
+mod capacity;
 mod datom;
 mod held;
 mod plan_cases;
 mod random;
 mod rust_plan;
 
+use capacity::{SELECTS, SLOTS};
 use held::{drive, Pair, TEXTS};
 use plan_cases::{case, check, damaged, e, in_order, numbers, sound, text, Case, Verdict};
 use random::Random;
@@ -274,10 +276,10 @@ fn cases() -> Vec<Asked> {
     let none: Vec<&[u8]> = vec![b""; slots.len()];
     all.push(asked(case(vec![], slots, vec![0, 10, 41]), &none));
     // as many slots, scans and selects as fit
-    let scans = (0..48).map(|i| (i % 2, 0, 2 * i as u16, 7, 2 * i as u16 + 1)).collect();
-    let full = asked(case(scans, vec![(false, 0); 96], (0..32).map(|i| 3 * i).collect()), &vec![&b"n"[..]; 96]);
-    all.push(Asked { select: 31, ..full.clone() });
-    all.push(Asked { select: 32, rooms: vec![], ..full });
+    let scans = (0..SLOTS / 2).map(|i| (i % 2, 0, 2 * i as u16, 7, 2 * i as u16 + 1)).collect();
+    let full = asked(case(scans, vec![(false, 0); SLOTS], (0..SELECTS as u16).map(|i| 3 * i).collect()), &vec![&b"n"[..]; SLOTS]);
+    all.push(Asked { select: SELECTS as u64 - 1, ..full.clone() });
+    all.push(Asked { select: SELECTS as u64, rooms: vec![], ..full });
     // 30: one end too few, one too many, a fall, past the names; at a constant's end too
     let wrong: Vec<Vec<u64>> = vec![
         vec![7, 12], vec![7, 12, 17, 17], vec![], vec![12, 7, 17], vec![7, 12, 11], vec![7, 12, 18], vec![18, 18, 18],
@@ -291,11 +293,11 @@ fn cases() -> Vec<Asked> {
     }
     // the plan check comes before 30, and 30 before 26, 29 and 31
     all.push(changed(&|a| { a.case.scans[1].4 = 3; a.ends.pop(); a.select = 9 }));
-    all.push(changed(&|a| { a.case.select_count = 33; a.ends.clear() }));
+    all.push(changed(&|a| { a.case.select_count = SELECTS as u64 + 1; a.ends.clear() }));
     all.push(changed(&|a| { a.ends.pop(); a.select = 9; a.rooms = vec![0, 5] }));
     all.push(changed(&|a| { a.ends.pop(); a.case.select[0] = 2 }));
     // 26 at the number asked for, 29
-    for select in vec![0, 1, 2, 31, 32, u64::max_value()] {
+    for select in vec![0, 1, 2, SELECTS as u64 - 1, SELECTS as u64, u64::max_value()] {
         all.push(changed(&|a| { a.select = select; a.rooms.clear() }));
         all.push(changed(&|a| { a.case.select = vec![2, 1]; a.case.select_count = 2; a.select = select; a.rooms = vec![110] }));
     }

@@ -131,9 +131,9 @@ struct loader_swaps {
 /* The calls read and write these structs as arrays of u64. */
 #if defined __STDC_VERSION__ && __STDC_VERSION__ >= 201112L
 _Static_assert(sizeof(struct loader_answer) == 4 * sizeof(uint64_t), "an answer is 4 words");
-_Static_assert(sizeof(struct loader_query) == 227 * sizeof(uint64_t), "a query is 227 words");
-_Static_assert(sizeof(struct loader_plan) == 467 * sizeof(uint64_t), "a plan is 467 words");
-_Static_assert(sizeof(struct loader_swaps) == 50 * sizeof(uint64_t), "a swap state is 50 words");
+_Static_assert(sizeof(struct loader_query) == (3 + 4 * LOADER_MAX_STATEMENTS + LOADER_MAX_SELECTS) * sizeof(uint64_t), "a query is words");
+_Static_assert(sizeof(struct loader_plan) == (3 + 5 * LOADER_MAX_SCANS + 2 * LOADER_MAX_SLOTS + LOADER_MAX_SELECTS) * sizeof(uint64_t), "a plan is words");
+_Static_assert(sizeof(struct loader_swaps) == (2 + LOADER_MAX_ELEMENTS) * sizeof(uint64_t), "a swap state is words");
 _Static_assert(sizeof(size_t) == sizeof(uint64_t), "a length is a word");
 #endif
 
