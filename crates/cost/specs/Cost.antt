@@ -72,9 +72,6 @@ weightFault before (s ∷ ss) i = orElse (weightFault (before ++ (s ∷ [])) ss 
 abbrev pub weighed : Verdict → ℕ → Costed
 weighed v n = unless v (λ r. record { verdict = r; cost = 0 }) (record { verdict = Fine; cost = n })
 
-unfoldable pub weighedFrom : List Scan → List Scan → ℕ → Costed
-weighedFrom before ss i = weighed (weightFault before ss i) (weight before ss)
-
 -- the cost of an array of scans of which so many count: 20, then 21 at the lowest such scan, then 27
 unfoldable pub costOfScans : List Scan → ℕ → Costed
 costOfScans scans k = weighed (orElse (scanFlowsFault scans k) (weightFault [] (take k scans) 0)) (weight [] (take k scans))

@@ -15,13 +15,9 @@ use plan::Scan;
 use refusal::Verdict;
 use refusal::refuse;
 ghost use mathlib.Core.Path.{_≡_};
-ghost use Prim.Native.Nat.{_≤_, _<_};
-ghost use mathlib.Core.List.{[]};
 ghost use mathlib.Core.Bool.{_||_};
-ghost use lib.ListN.{take};
-ghost use Rattle.capacity.specs.Capacity.{maxScans};
 ghost use Rattle.plan.specs.Plan.{sameIndex};
-ghost use Rattle.cost.specs.Cost.{sameKey, penaltyFor, itersOf, weighedFrom, costOfScans, costOf};
+ghost use Rattle.cost.specs.Cost.{sameKey, penaltyFor, itersOf, costOfScans, costOf};
 ghost use Rattle.cost.specs.Seen.{seenWith};
 
 // The answer of `cost`: 0 where it is refused.
@@ -45,7 +41,7 @@ pub fn cost(plan: Plan) -> Costed
     cost_of_scans(scans, scan_count)
 }
 
-// The cost of the scans that count, without a plan.
+// The cost of the scans that count, without a plan. From the last scan to the first, cost = penalty + steps × cost, beginning with 1.
 pub fn cost_of_scans(scans: [Scan; MAX_SCANS], scan_count: usize) -> Costed
     ensures { λ r. ⌜ r ≡ costOfScans scans «scan_count» ⌝ }
 {
@@ -53,14 +49,6 @@ pub fn cost_of_scans(scans: [Scan; MAX_SCANS], scan_count: usize) -> Costed
     if let Verdict::Refused(_) = verdict {
         return Costed { verdict, cost: 0 };
     }
-    weigh_scans(scans, scan_count)
-}
-
-// From the last scan to the first, cost = penalty + steps × cost, beginning with 1.
-fn weigh_scans(scans: [Scan; MAX_SCANS], scan_count: usize) -> Costed
-    requires { ⌜ «scan_count» ≤ maxScans ⌝ }
-    ensures { λ r. ⌜ r ≡ weighedFrom [] (take «scan_count» scans) 0 ⌝ }
-{
     let mut cost: u64 = 1;
     let mut left = scan_count;
     while 0 < left {

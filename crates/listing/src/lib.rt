@@ -14,9 +14,7 @@ use plan::Plan;
 use plan::Scan;
 use refusal::Verdict;
 ghost use mathlib.Core.Path.{_≡_};
-ghost use Prim.Native.Nat.{_≤_};
-ghost use Rattle.capacity.specs.Capacity.{maxScans};
-ghost use Rattle.listing.specs.Next.{nextIndex, isNewIndex, nextScan, stepped, nextOfScans, nextOf};
+ghost use Rattle.listing.specs.Next.{nextIndex, isNewIndex, nextScan, nextOfScans, nextOf};
 
 // The answer of `next`: whether it is new, and the plan; where it is refused, the plan as it was given.
 pub struct NextPlan {
@@ -66,7 +64,8 @@ pub fn next(plan: Plan) -> NextPlan
     }
 }
 
-// The same for the scans that count, without a plan. Where it is refused, the scans as they were given.
+// The same for the scans that count, without a plan: they advance up to the first that is new, and the others stay as they are. Where
+// it is refused, the scans as they were given.
 pub fn next_scans(scans: [Scan; MAX_SCANS], scan_count: usize) -> NextScans
     ensures { λ r. ⌜ r ≡ nextOfScans scans «scan_count» ⌝ }
 {
@@ -78,14 +77,6 @@ pub fn next_scans(scans: [Scan; MAX_SCANS], scan_count: usize) -> NextScans
             scans,
         };
     }
-    advance_scans(scans, scan_count)
-}
-
-// Advance the scans that count, up to the first that is new; the others stay as they are.
-fn advance_scans(scans: [Scan; MAX_SCANS], scan_count: usize) -> NextScans
-    requires { ⌜ «scan_count» ≤ maxScans ⌝ }
-    ensures { λ r. ⌜ r ≡ stepped scans «scan_count» ⌝ }
-{
     let mut scans = scans;
     let mut i_scan = 0;
     while i_scan < scan_count {

@@ -16,10 +16,7 @@ use datom::Aid;
 use refusal::Verdict;
 use refusal::refuse;
 ghost use mathlib.Core.Path.{_≡_};
-ghost use Prim.Native.Nat.{_≤_};
-ghost use lib.ListN.{take};
-ghost use Rattle.capacity.specs.Capacity.{maxScans};
-ghost use Rattle.plan.specs.Plan.{slotsInOrder, outOutEavt, entityValueFlow, emptyPlan, countsFault, outOutFault, scanFlowsFault, flowsFault};
+ghost use Rattle.plan.specs.Plan.{slotsInOrder, outOutEavt, entityValueFlow, emptyPlan, countsFault, scanFlowsFault, flowsFault};
 
 // The index of a slot.
 //
@@ -244,14 +241,6 @@ pub fn check_scan_flows(scans: [Scan; MAX_SCANS], scan_count: usize) -> Verdict
     if MAX_SCANS < scan_count {
         return refuse(refusal::PLAN_COUNTS, 0);
     }
-    check_out_out(scans, scan_count)
-}
-
-// 21: the lowest scan that is out-out over eavt.
-fn check_out_out(scans: [Scan; MAX_SCANS], scan_count: usize) -> Verdict
-    requires { ⌜ «scan_count» ≤ maxScans ⌝ }
-    ensures { λ r. ⌜ r ≡ outOutFault (take «scan_count» scans) 0 ⌝ }
-{
     let mut i_scan = 0;
     while i_scan < scan_count {
         let scan = scans[i_scan];
