@@ -1,7 +1,17 @@
 // Answers the cases that stand on standard input as decimal numbers: for each its kind, and then what the kind says (docs/REPLAY.md).
 // stdin and stdout hold the stored cases and the Rust's answers to them; `compare/run --make` writes both.
+mod answers;
+mod evaluations;
+mod over_tables;
+
 use libc::STDIN_FILENO;
-use written::put;
+use replay_given::numbers;
+use replay_given::written::put;
+use replay_plans::plans;
+use replay_plans::queries;
+use replay_plans::searches;
+use replay_plans::swaps;
+use replay_plans::texts;
 ghost use mathlib.Core.Path.{_≡_};
 ghost use lib.ListN.{length};
 ghost use Rattle.replay.specs.Capacity.{textBytes};

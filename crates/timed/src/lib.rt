@@ -1,5 +1,6 @@
-// Evaluation and the search as C functions, for the benchmarks (bench/run). A plan or a query comes as decimal numbers (crate `given`).
+// Evaluation and the search as C functions, for the benchmarks (bench/run). A plan or a query comes as decimal numbers (`replay_given`).
 use refusal::Verdict;
+use replay_given::given;
 
 // Evaluate from row 0. Returns how many rows were written.
 #[no_mangle]

@@ -1,0 +1,36 @@
+-- `read_ends` is safe and ends.
+use borrow.Author.Needs.{needs}
+use Prim.Native.Nat.{_≤_, _-_}
+use mathlib.Core.Path.{_≡_}
+use native.Mathlib.Omega.{arith}
+use lib.ListN.{length, length-set}
+use Rattle.replay_plans.proofs.texts.read_ends.Statement.{statement}
+use Rattle.replay_plans.proofs.texts.read_ends.Tie as tie
+
+abbrev Inv-loop : tie.InvT-loop
+Inv-loop text start ends₀ given next₀ i₀ ends next i = (i ≤ length ends₀) × (length ends ≡ length ends₀)
+
+abbrev μ-loop : tie.MeasureT-loop
+μ-loop text start ends₀ given next₀ i₀ ends next i = length ends₀ - i
+
+loop-again : tie.Need-loop-again Inv-loop μ-loop
+loop-again c = (omega arith, simp length-set (c .before .before .before .before .loop .inv .1))
+
+pub read-ends-spec : {M : Type 1} → statement M
+read-ends-spec =
+    tie.close
+    (tie.spec
+    Inv-loop
+    μ-loop
+    (λ c κs. search needs)
+    (λ c. search needs)
+    (λ c. search needs)
+    (λ c. search needs)
+    (λ c κs. search needs)
+    (λ c. search needs)
+    (λ c. search needs)
+    (λ c. search needs)
+    (λ c. search needs)
+    loop-again
+    (λ c. search needs)
+    (λ c. search needs))

@@ -1,0 +1,27 @@
+-- `show_plan` is safe and ends.
+use borrow.Author.Needs.{needs}
+use Rattle.replay_plans.proofs.texts.show_plan.Statement.{statement}
+use Rattle.replay_plans.proofs.texts.show_plan.Tie as tie
+
+abbrev Inv-loop : tie.InvT-loop
+Inv-loop text start plan names ends next₀ left₀ next left = Unit {0}
+
+abbrev μ-loop : tie.MeasureT-loop
+μ-loop text start plan names ends next₀ left₀ next left = left
+
+pub show-plan-spec : {M : Type 1} → statement M
+show-plan-spec =
+    tie.close
+    (tie.spec
+    Inv-loop
+    μ-loop
+    (λ c κs. search needs)
+    (λ c κs. search needs)
+    (λ c κs. search needs)
+    (λ c. search needs)
+    (λ c κs. search needs)
+    (λ c κs. search needs)
+    (λ c. search needs)
+    (λ c. search needs)
+    (λ c. search needs)
+    (λ c. search needs))

@@ -1,0 +1,7 @@
+// The cases of `replay` that want no tables, a module for each kind (docs/REPLAY.md): the swaps, plans and their parts, the text of a
+// plan, queries planned, checked and searched.
+pub mod plans;
+pub mod queries;
+pub mod searches;
+pub mod swaps;
+pub mod texts;
