@@ -30,8 +30,6 @@ pub struct Costed {
     pub cost: u64,
 }
 
-const LARGEST: u64 = 18446744073709551615;
-
 // A rather ad-hoc cost estimate. Should be replaced with something better.
 pub fn cost(plan: Plan) -> Costed
     ensures { λ r. ⌜ r ≡ costOf plan ⌝ }
@@ -81,7 +79,7 @@ fn weigh_scans(scans: [Scan; MAX_SCANS], scan_count: usize) -> Costed
         let index = scan.index;
         let penalty = locality_penalty(index, seen.is_key, seen.is_index);
         let steps = iters(flow, index);
-        let room = (LARGEST - penalty) / steps;
+        let room = (u64::MAX - penalty) / steps;
         if room < cost {
             let verdict = refuse(refusal::COST_TOO_LARGE, i_scan);
             return Costed { verdict, cost: 0 };

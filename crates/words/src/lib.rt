@@ -21,7 +21,6 @@ use plan::Scan;
 use plan::Slot;
 use plan::SlotDefinition;
 use plan::SlotRecord;
-use query::LARGEST;
 use query::Query;
 use query::QueryValue;
 use query::Selects;
@@ -269,10 +268,10 @@ fn read_variable(words: &[u64; QUERY_WORDS], i: usize) -> Var
 fn short(word: u64) -> u16
     ensures { λ r. ⌜ r ≡ min word largest ⌝ }
 {
-    if word < LARGEST {
+    if word < u16::MAX as u64 {
         word as u16
     } else {
-        LARGEST as u16
+        u16::MAX
     }
 }
 
@@ -331,5 +330,5 @@ fn value_of(is_constant: u64, value: u64) -> QueryValue
     if is_constant == 0 {
         return QueryValue::Var(Var(short(value)));
     }
-    QueryValue::Var(Var(LARGEST as u16))
+    QueryValue::Var(Var(u16::MAX))
 }
