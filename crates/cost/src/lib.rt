@@ -182,21 +182,5 @@ fn same_key(scan: Scan, earlier: Scan) -> bool
 fn same_index(index: Index, used: Index) -> bool
     ensures { λ r. ⌜ r ≡ sameIndex index used ⌝ }
 {
-    match index {
-        Index::Aevt => match used {
-            Index::Aevt => true,
-            Index::Avet => false,
-            Index::Eavt => false,
-        },
-        Index::Avet => match used {
-            Index::Aevt => false,
-            Index::Avet => true,
-            Index::Eavt => false,
-        },
-        Index::Eavt => match used {
-            Index::Aevt => false,
-            Index::Avet => false,
-            Index::Eavt => true,
-        },
-    }
+    plan::index_code(index) == plan::index_code(used)
 }
