@@ -26,8 +26,6 @@ pub const WORDS: usize = 131072;
 // As many words of rows are read at a time.
 pub const WINDOW: usize = 65536;
 
-const LARGEST: u64 = 18446744073709551615;
-
 // Read the numbers of a text into the front of a buffer, and answer how many they are: none where the text is outside the layout, or
 // has too many. A text that fills its buffer may go on, and is not read.
 pub fn read_question(text: &[u8], words: &mut [u64]) -> usize
@@ -65,7 +63,7 @@ fn with_numbers(from: u64, most: u64) -> u64
     if from == 0 {
         return most;
     }
-    let numbers = LARGEST - from + 1;
+    let numbers = u64::MAX - from + 1;
     if numbers < most { numbers } else { most }
 }
 

@@ -4,7 +4,6 @@ use capacity::MAX_SELECTS;
 use capacity::MAX_SLOTS;
 use capacity::MAX_STATEMENTS;
 use datom::Aid;
-use query::LARGEST;
 use query::Query;
 use query::QueryValue;
 use query::Selects;
@@ -271,8 +270,8 @@ fn value_of(kind: u64, value: u64) -> QueryValue
 fn variable(number: u64) -> Var
     ensures { λ r. ⌜ r ≡ varOf number ⌝ }
 {
-    if LARGEST < number {
-        return Var(LARGEST as u16);
+    if (u16::MAX as u64) < number {
+        return Var(u16::MAX);
     }
     Var(number as u16)
 }

@@ -26,8 +26,6 @@ pub struct Costed {
     pub cost: u64,
 }
 
-const LARGEST: u64 = 18446744073709551615;
-
 // A rather ad-hoc cost estimate. Should be replaced with something better.
 pub fn cost(plan: Plan) -> Costed
     ensures { λ r. ⌜ r ≡ costOf plan ⌝ }
@@ -69,7 +67,7 @@ pub fn cost_of_scans(scans: [Scan; MAX_SCANS], scan_count: usize) -> Costed
         let index = scan.index;
         let penalty = locality_penalty(index, seen.is_key, seen.is_index);
         let steps = iters(flow, index);
-        let room = (LARGEST - penalty) / steps;
+        let room = (u64::MAX - penalty) / steps;
         if room < cost {
             let verdict = refuse(refusal::COST_TOO_LARGE, i_scan);
             return Costed { verdict, cost: 0 };
@@ -172,21 +170,5 @@ fn same_key(scan: Scan, earlier: Scan) -> bool
 fn same_index(index: Index, used: Index) -> bool
     ensures { λ r. ⌜ r ≡ sameIndex index used ⌝ }
 {
-    match index {
-        Index::Aevt => match used {
-            Index::Aevt => true,
-            Index::Avet => false,
-            Index::Eavt => false,
-        },
-        Index::Avet => match used {
-            Index::Aevt => false,
-            Index::Avet => true,
-            Index::Eavt => false,
-        },
-        Index::Eavt => match used {
-            Index::Aevt => false,
-            Index::Avet => false,
-            Index::Eavt => true,
-        },
-    }
+    plan::index_code(index) == plan::index_code(used)
 }

@@ -12,20 +12,21 @@ use Rattle.plan.specs.declared.Index.{Index}
 use Rattle.plan.specs.declared.Index.the-variants.{Aevt, Avet, Eavt}
 use Rattle.plan.specs.declared.Flow.{Flow}
 use Rattle.plan.specs.declared.Flow.the-variants.{OutOut, InOut, InIn}
+use Rattle.plan.specs.Codes.{indexCode}
 use Rattle.plan.specs.Plan.{inOrder, zeroScan}
 use Rattle.visits.specs.Visits.{rowFor, inputs, wanted}
-use Rattle.eval.specs.Words.{scanWords, indexNumber, scansIn, LiesAt}
+use Rattle.eval.specs.Words.{scanWords, scansIn, LiesAt}
 use Rattle.eval.specs.Steps.{keyOf, filledFrom, Found}
 
 -- the words of a key in eavt, and in the other tables
 module _ (s : Scan) (slots : List ℕ) where
-  row-eavt : (x : Index) → indexNumber x ≡ 2
+  row-eavt : (x : Index) → indexCode x ≡ 2
       → getD slots (inOrder x (s .entity) (s .value) .0) 0 ∷ s .attribute .0 ∷ getD slots (inOrder x (s .value) (s .entity) .0) 0 ∷ [] ≡ rowFor x (wanted s slots)
   row-eavt Aevt e = absurd (omega arith)
   row-eavt Avet e = absurd (omega arith)
   row-eavt Eavt e = refl
 
-  row-other : (x : Index) → (indexNumber x ≡ 2 → ⊥)
+  row-other : (x : Index) → (indexCode x ≡ 2 → ⊥)
       → s .attribute .0 ∷ getD slots (inOrder x (s .entity) (s .value) .0) 0 ∷ getD slots (inOrder x (s .value) (s .entity) .0) 0 ∷ [] ≡ rowFor x (wanted s slots)
   row-other Aevt e = refl
   row-other Avet e = refl

@@ -11,25 +11,11 @@ use Rattle.plan.specs.declared.Index.{Index}
 use Rattle.plan.specs.declared.Index.the-variants.{Aevt, Avet, Eavt}
 use Rattle.plan.specs.declared.Flow.{Flow}
 use Rattle.plan.specs.declared.Flow.the-variants.{OutOut, InOut, InIn}
+use Rattle.plan.specs.Codes.{indexCode, indexOfCode}
 use Rattle.plan.specs.Plan.{inOrder, firstSlot, secondSlot, zeroScan}
+use Rattle.plan.proofs.Codes.{index-code-back, flow-code-back}
 use Rattle.visits.specs.Visits.{Tables, tableOf, inputs}
-use Rattle.eval.specs.Words.{scanWords, indexNumber, indexOf, flowOf, scanOf, wordsOf, scansIn, LiesAt, Laid}
-
-pub index-of-number : (x : Index) → indexOf (indexNumber x) ≡ x
-index-of-number Aevt = refl
-index-of-number Avet = refl
-index-of-number Eavt = refl
-
--- a table that is neither the first nor the second is the third
-pub third-index : (n : ℕ) → (n ≡ 0 → ⊥) → (n ≡ 1 → ⊥) → indexOf n ≡ Eavt
-third-index zero a b = absurd (a refl)
-third-index (suc zero) a b = absurd (b refl)
-third-index (suc (suc n)) a b = refl
-
-flow-of-inputs : (f : Flow) → flowOf (inputs f) ≡ f
-flow-of-inputs OutOut = refl
-flow-of-inputs InOut = refl
-flow-of-inputs InIn = refl
+use Rattle.eval.specs.Words.{scanWords, scanOf, wordsOf, scansIn, LiesAt, Laid}
 
 in-order-twice : (x : Index) (e v : Slot) → inOrder x (inOrder x e v) (inOrder x v e) ≡ e
 in-order-twice Aevt e v = refl
@@ -37,9 +23,9 @@ in-order-twice Avet e v = refl
 in-order-twice Eavt e v = refl
 
 -- a scan is read back from its words
-scan-back : (s : Scan) → scanOf (indexNumber (s .index)) (inputs (s .flow)) (s .attribute .0) (firstSlot s .0) (secondSlot s .0) ≡ s
+scan-back : (s : Scan) → scanOf (indexCode (s .index)) (inputs (s .flow)) (s .attribute .0) (firstSlot s .0) (secondSlot s .0) ≡ s
 scan-back s =
-    rw (index-of-number (s .index), flow-of-inputs (s .flow), in-order-twice (s .index) (s .entity) (s .value), in-order-twice (s .index) (s .value) (s .entity))
+    rw (index-code-back (s .index), flow-code-back (s .flow), in-order-twice (s .index) (s .entity) (s .value), in-order-twice (s .index) (s .value) (s .entity))
 
 pub scans-back : (ss : List Scan) → scansIn (wordsOf ss) ≡ ss
 unfolding scansIn wordsOf
@@ -49,7 +35,7 @@ scans-back (s ∷ ss) = rw (scan-back s, scans-back ss)
 -- scan s lies in the words at number i
 record At (ws : List ℕ) (i : ℕ) (s : Scan) : Type 0 where
   whole : scanWords * i + scanWords ≤ length ws
-  index-is : getD ws (scanWords * i) 0 ≡ indexNumber (s .index)
+  index-is : getD ws (scanWords * i) 0 ≡ indexCode (s .index)
   inputs-is : getD ws (scanWords * i + 1) 0 ≡ inputs (s .flow)
   attribute-is : getD ws (scanWords * i + 2) 0 ≡ s .attribute .0
   first-is : getD ws (scanWords * i + 3) 0 ≡ firstSlot s .0
@@ -111,6 +97,6 @@ pub laid-length : {ws : List ℕ} {slots : ℕ} → Laid ws slots → length ws 
 laid-length {ws} h = ap length (h .words-are) ∙ words-length (scansIn ws)
 
 -- the table with the number that was read is the scan's
-pub table-is : {ws : List ℕ} {n i : ℕ} → LiesAt ws n i → (ts : Tables) (t : List ℕ) → t ≡ tableOf ts (indexOf (getD ws (scanWords * i) 0))
+pub table-is : {ws : List ℕ} {n i : ℕ} → LiesAt ws n i → (ts : Tables) (t : List ℕ) → t ≡ tableOf ts (indexOfCode (getD ws (scanWords * i) 0))
     → t ≡ tableOf ts (getD (scansIn ws) i zeroScan .index)
-table-is {ws} {n} {i} h ts t e = e ∙ ap (λ (k : ℕ). tableOf ts (indexOf k)) (h .index-is) ∙ ap (tableOf ts) (index-of-number (getD (scansIn ws) i zeroScan .index))
+table-is {ws} {n} {i} h ts t e = e ∙ ap (λ (k : ℕ). tableOf ts (indexOfCode k)) (h .index-is) ∙ ap (tableOf ts) (index-code-back (getD (scansIn ws) i zeroScan .index))

@@ -1,15 +1,12 @@
 -- How evaluation lays out a plan's scans as words, so that no scan is copied at a row: table, inputs, attribute, and the two slots in index
 -- order.
 use mathlib.Core.Path.{_≡_}
-use Prim.Native.Nat.{ℕ, zero, suc, _+_, _*_, _≤_, _<_}
+use Prim.Native.Nat.{ℕ, _+_, _*_, _≤_, _<_}
 use mathlib.Core.List.{List, [], _∷_}
 use lib.ListN.{length, getD}
 use Rattle.plan.specs.declared.Slot.{Slot}
 use Rattle.plan.specs.declared.Scan.{Scan}
-use Rattle.plan.specs.declared.Index.{Index}
-use Rattle.plan.specs.declared.Index.the-variants.{Aevt, Avet, Eavt}
-use Rattle.plan.specs.declared.Flow.{Flow}
-use Rattle.plan.specs.declared.Flow.the-variants.{OutOut, InOut, InIn}
+use Rattle.plan.specs.Codes.{indexCode, indexOfCode, flowOfCode}
 use Rattle.plan.specs.Plan.{inOrder, firstSlot, secondSlot, zeroScan}
 use Rattle.visits.specs.Visits.{inputs}
 use Rattle.visits.specs.Sound.{Sound}
@@ -18,37 +15,21 @@ use Rattle.visits.specs.Sound.{Sound}
 abbrev pub scanWords : ℕ
 scanWords = 5
 
--- a table's number
-abbrev pub indexNumber : Index → ℕ
-indexNumber Aevt = 0
-indexNumber Avet = 1
-indexNumber Eavt = 2
-
 unfoldable pub wordsOf : List Scan → List ℕ
 wordsOf [] = []
-wordsOf (s ∷ ss) = indexNumber (s .index) ∷ inputs (s .flow) ∷ s .attribute .0 ∷ firstSlot s .0 ∷ secondSlot s .0 ∷ wordsOf ss
+wordsOf (s ∷ ss) = indexCode (s .index) ∷ inputs (s .flow) ∷ s .attribute .0 ∷ firstSlot s .0 ∷ secondSlot s .0 ∷ wordsOf ss
 
 -- the other way round
-abbrev pub indexOf : ℕ → Index
-indexOf zero = Aevt
-indexOf (suc zero) = Avet
-indexOf (suc (suc n)) = Eavt
-
-abbrev pub flowOf : ℕ → Flow
-flowOf zero = OutOut
-flowOf (suc zero) = InOut
-flowOf (suc (suc n)) = InIn
-
 abbrev pub slotOf : ℕ → Slot
 slotOf n = record { 0 = n }
 
 abbrev pub scanOf : ℕ → ℕ → ℕ → ℕ → ℕ → Scan
 scanOf x f a y z = record {
-  index = indexOf x;
-  flow = flowOf f;
-  entity = inOrder (indexOf x) (slotOf y) (slotOf z);
+  index = indexOfCode x;
+  flow = flowOfCode f;
+  entity = inOrder (indexOfCode x) (slotOf y) (slotOf z);
   attribute = record { 0 = a };
-  value = inOrder (indexOf x) (slotOf z) (slotOf y);
+  value = inOrder (indexOfCode x) (slotOf z) (slotOf y);
 }
 
 unfoldable pub scansIn : List ℕ → List Scan
@@ -62,7 +43,7 @@ scansIn (x ∷ f ∷ a ∷ y ∷ z ∷ ws) = scanOf x f a y z ∷ scansIn ws
 -- the words of scan i say what the scan is, and its slots are among so many
 pub record LiesAt (ws : List ℕ) (slots i : ℕ) : Type 0 where
   pub whole : scanWords * i + scanWords ≤ length ws
-  pub index-is : getD ws (scanWords * i) 0 ≡ indexNumber (getD (scansIn ws) i zeroScan .index)
+  pub index-is : getD ws (scanWords * i) 0 ≡ indexCode (getD (scansIn ws) i zeroScan .index)
   pub inputs-is : getD ws (scanWords * i + 1) 0 ≡ inputs (getD (scansIn ws) i zeroScan .flow)
   pub few-inputs : getD ws (scanWords * i + 1) 0 ≤ 2
   pub attribute-is : getD ws (scanWords * i + 2) 0 ≡ getD (scansIn ws) i zeroScan .attribute .0

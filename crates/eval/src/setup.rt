@@ -13,7 +13,6 @@ use super::walk::SCAN_WORDS;
 use capacity::MAX_SCANS;
 use capacity::MAX_SELECTS;
 use capacity::MAX_SLOTS;
-use plan::Flow;
 use plan::Index;
 use plan::Plan;
 use plan::Scan;
@@ -26,9 +25,9 @@ ghost use mathlib.Core.List.{[], _∷_, _++_};
 ghost use lib.ListN.{length, take, drop, replicate};
 ghost use Rattle.capacity.specs.Capacity.{maxScans, maxSlots, maxSelects};
 ghost use Rattle.plan.specs.Plan.{inOrder};
-ghost use Rattle.visits.specs.Visits.{tablesOf, inputs, valueOf, visits};
+ghost use Rattle.visits.specs.Visits.{tablesOf, valueOf, visits};
 ghost use Rattle.visits.specs.Pending.{iterWords};
-ghost use Rattle.eval.specs.Words.{scanWords, indexNumber, wordsOf, scansIn, Laid};
+ghost use Rattle.eval.specs.Words.{scanWords, wordsOf, scansIn, Laid};
 ghost use Rattle.eval.specs.Steps.{Ascend};
 ghost use Rattle.eval.specs.Next.{Named, rowsAt, Shows};
 ghost use Rattle.eval.specs.Evaluation.{valuesOf, numbersOf, Evaluable, Roomy, RoomFor, WrittenOut, ShowsRows};
@@ -202,8 +201,8 @@ fn write_scan(scan: Scan, at: usize, words: &mut [u64])
     let flow = scan.flow;
     let entity = scan.entity;
     let value = scan.value;
-    words[at] = index_number(index);
-    words[at + 1] = inputs_of(flow);
+    words[at] = plan::index_code(index);
+    words[at + 1] = plan::flow_code(flow);
     words[at + 2] = scan.attribute.0;
     words[at + 3] = in_order(index, entity, value);
     words[at + 4] = in_order(index, value, entity);
@@ -217,28 +216,6 @@ fn in_order(index: Index, entity: Slot, value: Slot) -> u64
         Index::Aevt => entity.0 as u64,
         Index::Avet => value.0 as u64,
         Index::Eavt => entity.0 as u64,
-    }
-}
-
-// A table's number.
-fn index_number(index: Index) -> u64
-    ensures { λ r. ⌜ r ≡ indexNumber index ⌝ }
-{
-    match index {
-        Index::Aevt => super::walk::AEVT,
-        Index::Avet => super::walk::AVET,
-        Index::Eavt => super::walk::EAVT,
-    }
-}
-
-// How many of its two slots a scan reads.
-fn inputs_of(flow: Flow) -> u64
-    ensures { λ r. ⌜ r ≡ inputs flow ⌝ }
-{
-    match flow {
-        Flow::OutOut => 0,
-        Flow::InOut => 1,
-        Flow::InIn => 2,
     }
 }
 

@@ -8,24 +8,21 @@
 // Port of the core of src/eval.rs to Rattle, changed: boxed iterators are pairs of positions in a lent table, `View` is three
 // lent tables, and the scans are lent as words, because a scan by value would be copied at every row.
 use datom::WORDS;
+use plan::AEVT;
+use plan::AVET;
+use plan::EAVT;
 ghost use mathlib.Core.Path.{_≡_};
 ghost use Prim.Native.Nat.{_<_};
 ghost use lib.ListN.{length, getD};
 ghost use Rattle.tables.specs.Rows.{count, row, key};
+ghost use Rattle.plan.specs.Codes.{indexOfCode};
 ghost use Rattle.plan.specs.Plan.{zeroScan};
 ghost use Rattle.visits.specs.Visits.{tablesOf, tableOf};
-ghost use Rattle.eval.specs.Words.{indexOf, scansIn, LiesAt, Laid};
+ghost use Rattle.eval.specs.Words.{scansIn, LiesAt, Laid};
 ghost use Rattle.eval.specs.Steps.{keyOf, filledFrom, Found, Ascend, Ready, Stepped};
 
 // A scan's words: its table's number, how many inputs it has, its attribute, and its two slots in index order.
 pub(crate) const SCAN_WORDS: usize = 5;
-
-// The tables' numbers: aevt, avet, eavt.
-pub(crate) const AEVT: u64 = 0;
-
-pub(crate) const AVET: u64 = 1;
-
-pub(crate) const EAVT: u64 = 2;
 
 // The words of an iterator in the state: its position and its end.
 pub(crate) const ITER_WORDS: usize = 2;
@@ -136,7 +133,7 @@ pub(crate) fn get_table<'a>(
     eavt: &'a [u64],
     number: u64,
 ) -> &'a [u64]
-    ensures { λ r. ⌜ now r ≡ tableOf (tablesOf (now (aevt .entry)) (now (avet .entry)) (now (eavt .entry))) (indexOf number) ⌝ }
+    ensures { λ r. ⌜ now r ≡ tableOf (tablesOf (now (aevt .entry)) (now (avet .entry)) (now (eavt .entry))) (indexOfCode number) ⌝ }
 {
     if number == AEVT {
         return aevt;

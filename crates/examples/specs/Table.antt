@@ -12,6 +12,7 @@ use Rattle.orders.specs.Listing.{answerAt}
 use Rattle.query.specs.declared.Query.{Query}
 use Rattle.plan.specs.declared.Scan.{Scan}
 use Rattle.plan.specs.declared.Plan.{Plan}
+use Rattle.plan.specs.Codes.{indexCode}
 use Rattle.plan.specs.Plan.{scansOf}
 use Rattle.cost.specs.Cost.{costOf}
 use Rattle.planner.specs.Planning.{planOf}
@@ -21,7 +22,6 @@ use Rattle.search.specs.Search.{orders, searchOf}
 use Rattle.tables.specs.Rows.{flat}
 use Rattle.tables.specs.Check.{sameRow}
 use Rattle.visits.specs.Visits.{Tables, inputs, rowList}
-use Rattle.eval.specs.Words.{indexNumber}
 use Rattle.eval.specs.Evaluation.{evaluateOf, bufferAfter}
 use Rattle.examples.specs.Bench.{e, reversed, alone, pair, turned, triples, constantsOnly, outOuts}
 
@@ -37,7 +37,7 @@ swapWords g = cond (g .«is_some») (g .swap .0 ∷ g .swap .1 ∷ []) []
 -- of each scan, how many of its slots it reads, and its table's number
 unfoldable pub scanWords : List Scan → List ℕ
 scanWords [] = []
-scanWords (s ∷ ss) = inputs (s .flow) ∷ indexNumber (s .index) ∷ scanWords ss
+scanWords (s ∷ ss) = inputs (s .flow) ∷ indexCode (s .index) ∷ scanWords ss
 
 -- the plans listed for a query, in order
 abbrev pub listedFor : Query → List Plan

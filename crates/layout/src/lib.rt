@@ -20,9 +20,6 @@ struct Number {
     next: usize,
 }
 
-// The largest word.
-const LARGEST: u64 = 18446744073709551615;
-
 // Read the numbers of a text into the front of a buffer. Where the text leaves the layout, or there are more numbers than words of
 // room, the buffer holds the numbers before that place.
 pub fn read_words(text: &[u8], words: &mut [u64]) -> Read
@@ -168,7 +165,7 @@ fn goes_on(value: u64, b: u8) -> bool
     if value == 0 {
         return false;
     }
-    value <= (LARGEST - digit_value(b)) / 10
+    value <= (u64::MAX - digit_value(b)) / 10
 }
 
 fn longer(value: u64, b: u8) -> u64

@@ -9,9 +9,6 @@ ghost use lib.Seq.{sets};
 ghost use Rattle.pieces.specs.Decimal.{digit as Decimal·digit, decimal};
 ghost use Rattle.pieces.specs.Written.{after, Written};
 
-// The largest position.
-const LARGEST: usize = 18446744073709551615;
-
 // Write a piece.
 pub fn write(piece: &[u8], at: usize, out: &mut [u8]) -> usize
     ensures { λ r. ⌜ Written (now (piece .entry)) at (now (out .entry)) r (now (out .exit)) ⌝ }
@@ -45,8 +42,8 @@ fn write_digit(digit: u64, at: usize, out: &mut [u8]) -> usize
 fn later(at: usize, count: usize) -> usize
     ensures { λ r. ⌜ r ≡ after at count ⌝ }
 {
-    if LARGEST - at < count {
-        LARGEST
+    if usize::MAX - at < count {
+        usize::MAX
     } else {
         at + count
     }

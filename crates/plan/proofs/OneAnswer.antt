@@ -8,7 +8,10 @@ use Rattle.refusal.proofs.OneAnswer.{one-answer}
 use Rattle.plan.specs.declared.Slot.{Slot}
 use Rattle.plan.specs.declared.Scan.{Scan}
 use Rattle.plan.specs.declared.Plan.{Plan}
+use Rattle.plan.specs.declared.Index.{Index}
+use Rattle.plan.specs.declared.Flow.{Flow}
 use Rattle.plan.specs.declared.EntityValueFlow.{EntityValueFlow}
+use Rattle.plan.specs.Codes.{indexCode, flowCode, indexOfCode, flowOfCode}
 use Rattle.plan.specs.Plan.{slotsInOrder, entityValueFlow, outOutEavt, emptyPlan, countsFault, scanFlowsFault, flowsFault}
 
 pub slots-one : (s : Scan) (r r′ : List Slot) → r ≡ slotsInOrder s → r′ ≡ slotsInOrder s → r ≡ r′
@@ -22,6 +25,18 @@ out-out-one s r r′ = one-answer
 
 pub empty-one : (r r′ : Plan) → r ≡ emptyPlan → r′ ≡ emptyPlan → r ≡ r′
 empty-one r r′ = one-answer
+
+pub index-code-one : (x : Index) (r r′ : ℕ) → r ≡ indexCode x → r′ ≡ indexCode x → r ≡ r′
+index-code-one x r r′ = one-answer
+
+pub flow-code-one : (f : Flow) (r r′ : ℕ) → r ≡ flowCode f → r′ ≡ flowCode f → r ≡ r′
+flow-code-one f r r′ = one-answer
+
+pub index-of-code-one : (n : ℕ) (r r′ : Index) → r ≡ indexOfCode n → r′ ≡ indexOfCode n → r ≡ r′
+index-of-code-one n r r′ = one-answer
+
+pub flow-of-code-one : (n : ℕ) (r r′ : Flow) → r ≡ flowOfCode n → r′ ≡ flowOfCode n → r ≡ r′
+flow-of-code-one n r r′ = one-answer
 
 pub counts-one : (k n m : ℕ) (r r′ : Verdict) → r ≡ countsFault k n m → r′ ≡ countsFault k n m → r ≡ r′
 counts-one k n m r r′ = one-answer

@@ -4,7 +4,7 @@ use Prim.Native.Nat.{ℕ, _+_, _≤_}
 use mathlib.Core.List.{List, [], _∷_}
 use mathlib.Core.Bool.{Bool, true, false, _||_}
 use lib.ListN.{take, replicate}
-use lib.Dec.{ltb}
+use lib.Dec.{ltb, eqb}
 use Rattle.refusal.specs.declared.Verdict.{Verdict}
 use Rattle.refusal.specs.declared.Verdict.the-variants.{Fine}
 use Rattle.refusal.specs.Verdict.{refuseIf, orElse}
@@ -23,6 +23,7 @@ use Rattle.plan.specs.declared.EntityValueFlow.{EntityValueFlow}
 use Rattle.plan.specs.declared.EntityValueFlow.the-variants.{OutOut as BothOut, InOut as EntityIn, OutIn as ValueIn, InIn as BothIn}
 use Rattle.plan.specs.declared.Access.{Access}
 use Rattle.plan.specs.declared.Access.the-variants.{Reads, Writes}
+use Rattle.plan.specs.Codes.{indexCode}
 
 -- index order: avet is value, entity; the others entity, value
 abbrev pub inOrder : Index → Slot → Slot → Slot
@@ -102,15 +103,7 @@ variableSlot = record { definition = Variable }
 
 -- two indexes are the same
 abbrev pub sameIndex : Index → Index → Bool
-sameIndex Aevt Aevt = true
-sameIndex Aevt Avet = false
-sameIndex Aevt Eavt = false
-sameIndex Avet Aevt = false
-sameIndex Avet Avet = true
-sameIndex Avet Eavt = false
-sameIndex Eavt Aevt = false
-sameIndex Eavt Avet = false
-sameIndex Eavt Eavt = true
+sameIndex x y = eqb (indexCode x) (indexCode y)
 
 -- the empty plan, all zeros
 abbrev pub emptyPlan : Plan

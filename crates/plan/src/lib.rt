@@ -16,6 +16,7 @@ use datom::Aid;
 use refusal::Verdict;
 use refusal::refuse;
 ghost use mathlib.Core.Path.{_≡_};
+ghost use Rattle.plan.specs.Codes.{indexCode, flowCode, indexOfCode, flowOfCode};
 ghost use Rattle.plan.specs.Plan.{slotsInOrder, outOutEavt, entityValueFlow, emptyPlan, countsFault, scanFlowsFault, flowsFault};
 
 // The index of a slot.
@@ -29,6 +30,13 @@ pub enum Index {
     Avet,
     Eavt,
 }
+
+// The indexes' numbers, wherever they stand as words.
+pub const AEVT: u64 = 0;
+
+pub const AVET: u64 = 1;
+
+pub const EAVT: u64 = 2;
 
 // Which slots to fill, and which to read.
 //
@@ -54,6 +62,13 @@ pub enum Flow {
     InOut,
     InIn,
 }
+
+// The flows' numbers: how many of a scan's two slots are inputs.
+pub const OUT_OUT: u64 = 0;
+
+pub const IN_OUT: u64 = 1;
+
+pub const IN_IN: u64 = 2;
 
 // The combination of an index and flow.
 //
@@ -186,6 +201,52 @@ impl Plan {
             select_count: 0,
         }
     }
+}
+
+// The number of an index, and of a flow.
+pub fn index_code(index: Index) -> u64
+    ensures { λ r. ⌜ r ≡ indexCode index ⌝ }
+{
+    match index {
+        Index::Aevt => AEVT,
+        Index::Avet => AVET,
+        Index::Eavt => EAVT,
+    }
+}
+
+pub fn flow_code(flow: Flow) -> u64
+    ensures { λ r. ⌜ r ≡ flowCode flow ⌝ }
+{
+    match flow {
+        Flow::OutOut => OUT_OUT,
+        Flow::InOut => IN_OUT,
+        Flow::InIn => IN_IN,
+    }
+}
+
+// The index, and the flow, of a number: one past the last is read as the last.
+pub fn index_of_code(code: u64) -> Index
+    ensures { λ r. ⌜ r ≡ indexOfCode code ⌝ }
+{
+    if code == AEVT {
+        return Index::Aevt;
+    }
+    if code == AVET {
+        return Index::Avet;
+    }
+    Index::Eavt
+}
+
+pub fn flow_of_code(code: u64) -> Flow
+    ensures { λ r. ⌜ r ≡ flowOfCode code ⌝ }
+{
+    if code == OUT_OUT {
+        return Flow::OutOut;
+    }
+    if code == IN_OUT {
+        return Flow::InOut;
+    }
+    Flow::InIn
 }
 
 // 20: a count over its capacity. Every call over a plan starts with it.

@@ -15,11 +15,12 @@ use Rattle.plan.specs.declared.Index.{Index}
 use Rattle.plan.specs.declared.Index.the-variants.{Aevt, Avet, Eavt}
 use Rattle.plan.specs.declared.Flow.{Flow}
 use Rattle.plan.specs.declared.Flow.the-variants.{OutOut, InOut, InIn}
+use Rattle.plan.specs.Codes.{indexCode, flowCode}
 use Rattle.plan.specs.Plan.{zeroScan, variableSlot, zeroSlot}
 use Rattle.query.specs.Query.{largest}
 use Rattle.lists.proofs.Tabled.{tabled-same}
 use Rattle.words.specs.Words.{slotOf, indexOf, flowOf, definitionOf, word, scanWords, slotWords, scansAt, slotsAt, selectAt, scanAt, slotAt, selectedAt, scansIn, slotsIn, selectsIn, planOfWords}
-use Rattle.plan_words.specs.Write.{indexWord, flowWord, constantWord, valueWord, wordsOfScan, wordsOfSlot, wordsOfSelect, laid, countWords, wordsOfPlan}
+use Rattle.plan_words.specs.Write.{constantWord, valueWord, wordsOfScan, wordsOfSlot, wordsOfSelect, laid, countWords, wordsOfPlan}
 use Rattle.plan_words.proofs.Written.{Filled, front-long, middle-long}
 
 module _ {A : Type 0} (f : A → List ℕ) (k : ℕ) (each : (x : A) → length (f x) ≡ k) where
@@ -35,7 +36,7 @@ module _ {A : Type 0} (f : A → List ℕ) (k : ℕ) (each : (x : A) → length 
       rw e (getD-append-add (f x) (laid f l) (k * i + j) 0 ∙ laid-at l i j z (le-of-suc-le-suc h) m)
 
 -- an index and a flow, a slot's record, a number
-index-back : (x : Index) (f : Flow) → indexOf (indexWord x) (flowWord f) ≡ x
+index-back : (x : Index) (f : Flow) → indexOf (indexCode x) (flowCode f) ≡ x
 index-back Aevt OutOut = refl
 index-back Aevt InOut = refl
 index-back Aevt InIn = refl
@@ -46,7 +47,7 @@ index-back Eavt OutOut = refl
 index-back Eavt InOut = refl
 index-back Eavt InIn = refl
 
-flow-back : (x : Index) (f : Flow) → flowOf (indexWord x) (flowWord f) ≡ f
+flow-back : (x : Index) (f : Flow) → flowOf (indexCode x) (flowCode f) ≡ f
 flow-back Aevt OutOut = refl
 flow-back Aevt InOut = refl
 flow-back Aevt InIn = refl
@@ -98,7 +99,7 @@ module _ (p : Plan) (full : Filled p) (small : Small p) where
   scan-back i h =
       let s = getD (p .scans) i zeroScan in
       let z : scansAt + scanWords * i ≡ scansAt + scanWords * i + 0 = omega arith in
-      let first : word (wordsOfPlan p) (scansAt + scanWords * i) ≡ indexWord (s .index) = ap (word (wordsOfPlan p)) z ∙ scan-word i 0 h (omega arith) in
+      let first : word (wordsOfPlan p) (scansAt + scanWords * i) ≡ indexCode (s .index) = ap (word (wordsOfPlan p)) z ∙ scan-word i 0 h (omega arith) in
       rw (first, scan-word i 1 h (omega arith), scan-word i 2 h (omega arith), scan-word i 3 h (omega arith), scan-word i 4 h (omega arith), index-back (s .index) (s .flow), flow-back (s .index) (s .flow), slot-back (s .entity) (small .entities i h), slot-back (s .value) (small .values i h)) refl
 
   slot-record-back : (i : ℕ) → i < maxSlots → slotAt (wordsOfPlan p) i ≡ getD (p .slots) i variableSlot

@@ -17,9 +17,10 @@ use Rattle.plan.specs.declared.Slot.{Slot}
 use Rattle.plan.specs.declared.SlotRecord.{SlotRecord}
 use Rattle.plan.specs.declared.Index.{Index}
 use Rattle.plan.specs.declared.Index.the-variants.{Aevt, Avet, Eavt}
+use Rattle.plan.specs.Codes.{indexCode}
 use Rattle.plan.specs.Plan.{outOutEavt, zeroScan}
 use Rattle.words.specs.Words.{word, scanWords, slotWords, slotsAt, selectAt, planWords, isNoKind, indexOf, flowOf, scanAt, slotAt, selectedAt, scansIn, slotsIn, selectsIn, planOfWords}
-use Rattle.plan_words.specs.Write.{indexWord, indexAt, withIndexes}
+use Rattle.plan_words.specs.Write.{indexAt, withIndexes}
 use Rattle.plan_words.proofs.Indexes.{indexes-other, indexes-at}
 
 -- two words that do not say out-out over eavt are an index and a flow
@@ -31,12 +32,12 @@ is-kind w f h = go (isNoKind w f) refl
     go false e = e
 
 -- and with another index beside it the flow stays
-index-kept : (x : Index) (f : ℕ) → ltb 2 f ≡ false → indexOf (indexWord x) f ≡ x
+index-kept : (x : Index) (f : ℕ) → ltb 2 f ≡ false → indexOf (indexCode x) f ≡ x
 index-kept Aevt f e = rw e
 index-kept Avet f e = rw e
 index-kept Eavt f e = rw e
 
-flow-kept : (x : Index) (w f : ℕ) → isNoKind w f ≡ false → ltb 2 f ≡ false → flowOf (indexWord x) f ≡ flowOf w f
+flow-kept : (x : Index) (w f : ℕ) → isNoKind w f ≡ false → ltb 2 f ≡ false → flowOf (indexCode x) f ≡ flowOf w f
 flow-kept Aevt w f k e = rw (k, e)
 flow-kept Avet w f k e = rw (k, e)
 flow-kept Eavt w f k e = rw (k, e)
@@ -57,7 +58,7 @@ module _ (ws : List ℕ) (ss : List Scan) (long : length ws ≡ planWords) (few 
   stays : (j : ℕ) → ((n : ℕ) → n < length ss → j ≡ indexAt n → ⊥) → word after j ≡ word ws j
   stays j h = indexes-other ss 0 ws j (λ n m e. h n m (omega arith))
 
-  index-put : (i : ℕ) → i < length ss → word after (indexAt i) ≡ indexWord (getD ss i zeroScan .index)
+  index-put : (i : ℕ) → i < length ss → word after (indexAt i) ≡ indexCode (getD ss i zeroScan .index)
   index-put i h =
       let z : 0 + i ≡ i = omega arith in
       rw z at (indexes-at ss 0 ws i h (omega arith))

@@ -8,25 +8,12 @@ use Rattle.plan.specs.declared.SlotRecord.{SlotRecord}
 use Rattle.plan.specs.declared.SlotDefinition.{SlotDefinition}
 use Rattle.plan.specs.declared.SlotDefinition.the-variants.{Variable, Constant}
 use Rattle.plan.specs.declared.Plan.{Plan}
-use Rattle.plan.specs.declared.Index.{Index}
-use Rattle.plan.specs.declared.Index.the-variants.{Aevt, Avet, Eavt}
-use Rattle.plan.specs.declared.Flow.{Flow}
-use Rattle.plan.specs.declared.Flow.the-variants.{OutOut, InOut, InIn}
+use Rattle.plan.specs.Codes.{indexCode, flowCode}
 use Rattle.words.specs.Words.{scansAt, scanWords}
 
--- the words of an index, a flow, a scan, a slot, a select
-abbrev pub indexWord : Index → ℕ
-indexWord Aevt = 0
-indexWord Avet = 1
-indexWord Eavt = 2
-
-abbrev pub flowWord : Flow → ℕ
-flowWord OutOut = 0
-flowWord InOut = 1
-flowWord InIn = 2
-
+-- the words of a scan, a slot, a select
 abbrev pub wordsOfScan : Scan → List ℕ
-wordsOfScan s = indexWord (s .index) ∷ flowWord (s .flow) ∷ s .entity .0 ∷ s .attribute .0 ∷ s .value .0 ∷ []
+wordsOfScan s = indexCode (s .index) ∷ flowCode (s .flow) ∷ s .entity .0 ∷ s .attribute .0 ∷ s .value .0 ∷ []
 
 abbrev pub constantWord : SlotDefinition → ℕ
 constantWord Variable = 0
@@ -65,4 +52,4 @@ indexAt i = scansAt + scanWords * i
 -- words with the indexes of these scans put over those of the scans from number i on; every other word as it was
 unfoldable pub withIndexes : List Scan → ℕ → List ℕ → List ℕ
 withIndexes [] i ws = ws
-withIndexes (s ∷ ss) i ws = withIndexes ss (i + 1) (set ws (indexAt i) (indexWord (s .index)))
+withIndexes (s ∷ ss) i ws = withIndexes ss (i + 1) (set ws (indexAt i) (indexCode (s .index)))

@@ -2,8 +2,6 @@
 use capacity::MAX_SCANS;
 use capacity::MAX_SELECTS;
 use capacity::MAX_SLOTS;
-use plan::Flow;
-use plan::Index;
 use plan::Plan;
 use plan::Scan;
 use plan::Slot;
@@ -27,7 +25,7 @@ ghost use mathlib.Core.Path.{_≡_};
 ghost use Prim.Native.Nat.{_+_, _≤_};
 ghost use lib.ListN.{length, take};
 ghost use Rattle.words.specs.Words.{scansAt, slotsAt, selectAt, planWords, scanWords, slotWords};
-ghost use Rattle.plan_words.specs.Write.{indexWord, flowWord, constantWord, valueWord, wordsOfScan, wordsOfSlot, wordsOfSelect, laid, wordsOfPlan, putAt, withIndexes};
+ghost use Rattle.plan_words.specs.Write.{constantWord, valueWord, wordsOfScan, wordsOfSlot, wordsOfSelect, laid, wordsOfPlan, putAt, withIndexes};
 
 // The words of a plan.
 pub fn words_of_plan(plan: Plan) -> [u64; PLAN_WORDS]
@@ -55,7 +53,7 @@ pub fn write_indexes(scans: [Scan; MAX_SCANS], scan_count: usize, words: &mut [u
     while i < MAX_SCANS && i < scan_count {
         let scan = scans[i];
         let index = scan.index;
-        words[SCANS_AT + SCAN_WORDS * i] = index_word(index);
+        words[SCANS_AT + SCAN_WORDS * i] = plan::index_code(index);
         i += 1;
     }
 }
@@ -100,8 +98,8 @@ fn write_scan(scan: Scan, at: usize, words: &mut [u64])
 {
     let index = scan.index;
     let flow = scan.flow;
-    words[at] = index_word(index);
-    words[at + SCAN_FLOW] = flow_word(flow);
+    words[at] = plan::index_code(index);
+    words[at + SCAN_FLOW] = plan::flow_code(flow);
     words[at + SCAN_ENTITY] = scan.entity.0 as u64;
     words[at + SCAN_ATTRIBUTE] = scan.attribute.0;
     words[at + SCAN_VALUE] = scan.value.0 as u64;
@@ -121,26 +119,6 @@ fn write_selected(slot: Slot, at: usize, words: &mut [u64])
     ensures { λ r. ⌜ now (words .exit) ≡ putAt at (wordsOfSelect slot) (now (words .entry)) ⌝ }
 {
     words[at] = slot.0 as u64;
-}
-
-fn index_word(index: Index) -> u64
-    ensures { λ r. ⌜ r ≡ indexWord index ⌝ }
-{
-    match index {
-        Index::Aevt => words::AEVT,
-        Index::Avet => words::AVET,
-        Index::Eavt => words::EAVT,
-    }
-}
-
-fn flow_word(flow: Flow) -> u64
-    ensures { λ r. ⌜ r ≡ flowWord flow ⌝ }
-{
-    match flow {
-        Flow::OutOut => words::OUT_OUT,
-        Flow::InOut => words::IN_OUT,
-        Flow::InIn => words::IN_IN,
-    }
 }
 
 fn constant_word(definition: SlotDefinition) -> u64

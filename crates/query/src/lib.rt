@@ -16,12 +16,9 @@ use datom::Aid;
 
 // A placeholder variable in a query.
 //
-// Variables can be named, but the names are specified separately; internally variables are referenced by index.
+// Variables can be named, but the names are specified separately; internally variables are referenced by index. No query has u16::MAX
+// variables, and no plan so many slots: readers take a number past it for that one.
 pub struct Var(pub u16);
-
-// The largest number of a variable, and of a slot: no query has so many variables, and no plan so many slots. Readers take a number past
-// it for this one.
-pub const LARGEST: u64 = 65535;
 
 // The value in a query can be a constant or a variable.
 pub enum QueryValue {

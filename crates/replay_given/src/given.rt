@@ -14,8 +14,6 @@ use capacity::MAX_SELECTS;
 use capacity::MAX_SLOTS;
 use capacity::MAX_STATEMENTS;
 use datom::Aid;
-use plan::Flow;
-use plan::Index;
 use plan::Plan;
 use plan::Scan;
 use plan::Slot;
@@ -218,22 +216,6 @@ fn slot(value: u64) -> Slot {
     Slot((value % 65536) as u16)
 }
 
-fn index_of(code: u64) -> Index {
-    match code {
-        0 => Index::Aevt,
-        1 => Index::Avet,
-        _ => Index::Eavt,
-    }
-}
-
-fn flow_of(code: u64) -> Flow {
-    match code {
-        0 => Flow::OutOut,
-        1 => Flow::InOut,
-        _ => Flow::InIn,
-    }
-}
-
 fn definition_of(is_constant: u64, value: u64) -> SlotDefinition {
     if is_constant == 1 {
         SlotDefinition::Constant(value)
@@ -251,8 +233,8 @@ fn with_scan(text: &[u8], reading: GivenPlan, i: usize) -> GivenPlan {
     let mut plan = reading.plan;
     if i < MAX_SCANS {
         plan.scans[i] = Scan {
-            index: index_of(index.value),
-            flow: flow_of(flow.value),
+            index: plan::index_of_code(index.value),
+            flow: plan::flow_of_code(flow.value),
             entity: slot(entity.value),
             attribute: Aid(attribute.value),
             value: slot(value.value),

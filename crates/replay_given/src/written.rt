@@ -3,8 +3,6 @@ use capacity::MAX_SCANS;
 use capacity::MAX_SELECTS;
 use capacity::MAX_SLOTS;
 use libc::STDOUT_FILENO;
-use plan::Flow;
-use plan::Index;
 use plan::Plan;
 use plan::Scan;
 use plan::Slot;
@@ -48,28 +46,12 @@ pub fn put_verdict(verdict: Verdict) {
     }
 }
 
-fn index_number(index: Index) -> u64 {
-    match index {
-        Index::Aevt => 0,
-        Index::Avet => 1,
-        Index::Eavt => 2,
-    }
-}
-
-fn flow_number(flow: Flow) -> u64 {
-    match flow {
-        Flow::OutOut => 0,
-        Flow::InOut => 1,
-        Flow::InIn => 2,
-    }
-}
-
 pub fn put_scan(scan: Scan) {
     let index = scan.index;
     let flow = scan.flow;
     put(b"scan");
-    put_after(index_number(index));
-    put_after(flow_number(flow));
+    put_after(plan::index_code(index));
+    put_after(plan::flow_code(flow));
     put_after(scan.entity.0 as u64);
     put_after(scan.attribute.0);
     put_after(scan.value.0 as u64);
@@ -134,7 +116,7 @@ pub fn put_indexes(scans: [Scan; MAX_SCANS], count: usize) {
         if i < count {
             let scan = scans[i];
             let index = scan.index;
-            put_number(index_number(index));
+            put_number(plan::index_code(index));
         }
     }
 }

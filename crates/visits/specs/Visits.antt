@@ -13,9 +13,9 @@ use Rattle.plan.specs.declared.Plan.{Plan}
 use Rattle.plan.specs.declared.Index.{Index}
 use Rattle.plan.specs.declared.Index.the-variants.{Aevt, Avet, Eavt}
 use Rattle.plan.specs.declared.Flow.{Flow}
-use Rattle.plan.specs.declared.Flow.the-variants.{OutOut, InOut, InIn}
 use Rattle.plan.specs.declared.EntityValueFlow.{EntityValueFlow}
 use Rattle.plan.specs.declared.EntityValueFlow.the-variants.{OutOut as BothOut, InOut as EntityIn, OutIn as ValueIn, InIn as BothIn}
+use Rattle.plan.specs.Codes.{flowCode}
 use Rattle.plan.specs.Plan.{entityValueFlow, scansOf, slotsOf, selectsOf}
 
 -- the three tables
@@ -45,9 +45,7 @@ factIn Eavt r = record { entity = getD r 0 0; attribute = getD r 1 0; value = ge
 
 -- how many of its two slots a scan reads: they come first in index order
 abbrev pub inputs : Flow → ℕ
-inputs OutOut = 0
-inputs InOut = 1
-inputs InIn = 2
+inputs f = flowCode f
 
 -- what a scan's attribute and slots say, where the slots hold these values
 abbrev pub wanted : Scan → List ℕ → Fact

@@ -27,8 +27,6 @@ struct Step {
     left: u64,
 }
 
-const LARGEST: u64 = 18446744073709551615;
-
 // Write the lines of a plan's rows from number `from` on, as many as the buffer for rows has room for and at most `left`; after the
 // last window the line that says whether more follow. On a refusal of evaluation both buffers stay as they are.
 pub fn show<'a>(
@@ -136,7 +134,7 @@ fn is_last(more: bool, count: u64, from: u64, left: u64) -> bool
     if count == 0 {
         return true;
     }
-    LARGEST - from < count
+    u64::MAX - from < count
 }
 
 // After the last window, whether more follow.

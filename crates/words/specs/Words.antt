@@ -13,9 +13,10 @@ use Rattle.plan.specs.declared.SlotDefinition.{SlotDefinition}
 use Rattle.plan.specs.declared.SlotDefinition.the-variants.{Variable, Constant}
 use Rattle.plan.specs.declared.Plan.{Plan}
 use Rattle.plan.specs.declared.Index.{Index}
-use Rattle.plan.specs.declared.Index.the-variants.{Aevt, Avet, Eavt}
+use Rattle.plan.specs.declared.Index.the-variants.{Eavt}
 use Rattle.plan.specs.declared.Flow.{Flow}
-use Rattle.plan.specs.declared.Flow.the-variants.{OutOut, InOut, InIn}
+use Rattle.plan.specs.declared.Flow.the-variants.{OutOut, InIn}
+use Rattle.plan.specs.Codes.{indexCode, flowCode, indexOfCode, flowOfCode}
 use Rattle.query.specs.declared.Var.{Var}
 use Rattle.query.specs.declared.QueryValue.{QueryValue}
 use Rattle.query.specs.declared.QueryValue.the-variants.{Const, Var as AVar}
@@ -64,13 +65,13 @@ varOf w = record { 0 = min w largest }
 
 -- not an index and a flow: read as out-out over eavt, which is refused (21)
 abbrev pub isNoKind : ℕ → ℕ → Bool
-isNoKind x f = ltb 2 x || ltb 2 f
+isNoKind x f = ltb (indexCode Eavt) x || ltb (flowCode InIn) f
 
 abbrev pub indexOf : ℕ → ℕ → Index
-indexOf x f = cond (isNoKind x f) Eavt (cond (eqb x 0) Aevt (cond (eqb x 1) Avet Eavt))
+indexOf x f = cond (isNoKind x f) Eavt (indexOfCode x)
 
 abbrev pub flowOf : ℕ → ℕ → Flow
-flowOf x f = cond (isNoKind x f) OutOut (cond (eqb f 0) OutOut (cond (eqb f 1) InOut InIn))
+flowOf x f = cond (isNoKind x f) OutOut (flowOfCode f)
 
 -- 1 and a constant; anything else is a variable slot, which a scan must set (24, 25)
 abbrev pub definitionOf : ℕ → ℕ → SlotDefinition

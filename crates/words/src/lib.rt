@@ -21,7 +21,6 @@ use plan::Scan;
 use plan::Slot;
 use plan::SlotDefinition;
 use plan::SlotRecord;
-use query::LARGEST;
 use query::Query;
 use query::QueryValue;
 use query::Selects;
@@ -33,19 +32,6 @@ ghost use Prim.Native.Nat.{_<_, min};
 ghost use Rattle.capacity.specs.Capacity.{maxScans, maxSlots, maxSelects, maxStatements};
 ghost use Rattle.query.specs.Query.{largest};
 ghost use Rattle.words.specs.Words.{isNoKind, indexOf, flowOf, definitionOf, valueOf, scanAt, slotAt, selectedAt, statementAt, variableAt, scansIn, slotsIn, selectsIn, statementsIn, variablesIn, planOfWords, queryOfWords};
-
-// The numbers of an index and of a flow.
-pub const AEVT: u64 = 0;
-
-pub const AVET: u64 = 1;
-
-pub const EAVT: u64 = 2;
-
-pub const OUT_OUT: u64 = 0;
-
-pub const IN_OUT: u64 = 1;
-
-pub const IN_IN: u64 = 2;
 
 // The words of a scan, after the first, which is its index; and of a slot, after the first, which says whether it is a constant.
 pub const SCAN_FLOW: usize = 1;
@@ -269,10 +255,10 @@ fn read_variable(words: &[u64; QUERY_WORDS], i: usize) -> Var
 fn short(word: u64) -> u16
     ensures { λ r. ⌜ r ≡ min word largest ⌝ }
 {
-    if word < LARGEST {
+    if word < u16::MAX as u64 {
         word as u16
     } else {
-        LARGEST as u16
+        u16::MAX
     }
 }
 
@@ -280,7 +266,7 @@ fn short(word: u64) -> u16
 fn is_no_kind(index: u64, flow: u64) -> bool
     ensures { λ r. ⌜ r ≡ isNoKind index flow ⌝ }
 {
-    EAVT < index || IN_IN < flow
+    plan::EAVT < index || plan::IN_IN < flow
 }
 
 fn index_of(index: u64, flow: u64) -> Index
@@ -289,13 +275,7 @@ fn index_of(index: u64, flow: u64) -> Index
     if is_no_kind(index, flow) {
         return Index::Eavt;
     }
-    if index == AEVT {
-        return Index::Aevt;
-    }
-    if index == AVET {
-        return Index::Avet;
-    }
-    Index::Eavt
+    plan::index_of_code(index)
 }
 
 fn flow_of(index: u64, flow: u64) -> Flow
@@ -304,13 +284,7 @@ fn flow_of(index: u64, flow: u64) -> Flow
     if is_no_kind(index, flow) {
         return Flow::OutOut;
     }
-    if flow == OUT_OUT {
-        return Flow::OutOut;
-    }
-    if flow == IN_OUT {
-        return Flow::InOut;
-    }
-    Flow::InIn
+    plan::flow_of_code(flow)
 }
 
 fn definition_of(is_constant: u64, value: u64) -> SlotDefinition
@@ -331,5 +305,5 @@ fn value_of(is_constant: u64, value: u64) -> QueryValue
     if is_constant == 0 {
         return QueryValue::Var(Var(short(value)));
     }
-    QueryValue::Var(Var(LARGEST as u16))
+    QueryValue::Var(Var(u16::MAX))
 }

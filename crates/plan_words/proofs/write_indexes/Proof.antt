@@ -26,7 +26,7 @@ again c =
     let b = c .before .before .before .before in
     let a = b .before .args in
     let h : length (a .t1) ≡ maxScans = search needs in
-    (omega arith, b .loop .inv .1 ∙ rw (c .index-word .ensures) (indexes-more (a .t1) (a .scan-count) (b .loop .i) (b .loop .words) (ltb-true _ _ (c .before .before .if1 .taken)) (omega arith)))
+    (omega arith, b .loop .inv .1 ∙ rw (c .index-code .ensures) (indexes-more (a .t1) (a .scan-count) (b .loop .i) (b .loop .words) (ltb-true _ _ (c .before .before .if1 .taken)) (omega arith)))
 
 past : tie.Need-returns Inv μ
 past c =

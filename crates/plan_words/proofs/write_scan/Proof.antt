@@ -29,4 +29,4 @@ write-scan-spec =
     (λ c. search needs)
     (λ c. simp length-set (omega arith))
     (λ c. search needs)
-    (λ c. rw (c .before .before .before .index-word .ensures, c .before .before .flow-word .ensures) (put-five _ _ _ _ _ _ _ (c .before .before .before .before .before .pre))))
+    (λ c. rw (c .before .before .before .index-code .ensures, c .before .before .flow-code .ensures) (put-five _ _ _ _ _ _ _ (c .before .before .before .before .before .pre))))

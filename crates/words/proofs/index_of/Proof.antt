@@ -1,7 +1,6 @@
--- `index_of` meets its contract, number by number.
+-- `index_of` meets its contract: not such, or read by its number.
 use mathlib.Core.Path.{refl}
 use borrow.Author.Needs.{needs}
-use borrow.Author.Tests.{eq-eqb, ne-eqb}
 use Rattle.words.proofs.index_of.Statement.{statement}
 use Rattle.words.proofs.index_of.Tie as tie
 
@@ -11,6 +10,5 @@ index-of-spec =
     (tie.spec
     (λ c κs. search needs)
     (λ c. rw (← (c .before .is-no-kind .ensures), c .if1 .taken) refl)
-    (λ c. rw (← (c .before .before .is-no-kind .ensures), c .before .if1 .left, eq-eqb _ 0 (c .if2 .taken)) refl)
-    (λ c. rw (← (c .before .before .before .is-no-kind .ensures), c .before .before .if1 .left, ne-eqb _ 0 (c .before .if2 .left), eq-eqb _ 1 (c .if3 .taken)) refl)
-    (λ c. rw (← (c .before .before .before .is-no-kind .ensures), c .before .before .if1 .left, ne-eqb _ 0 (c .before .if2 .left), ne-eqb _ 1 (c .if3 .left)) refl))
+    (λ c κs. search needs)
+    (λ c. rw (← (c .before .before .is-no-kind .ensures), c .before .if1 .left) (c .index-of-code .ensures)))

@@ -12,5 +12,4 @@ value-of-spec =
     (λ c. rw (eq-eqb _ 1 (c .if1 .taken)) refl)
     (λ c κs. search needs)
     (λ c. rw (ne-eqb _ 1 (c .before .before .if1 .left), eq-eqb _ 0 (c .before .if2 .taken), c .short .ensures) refl)
-    (λ c. search needs)
     (λ c. rw (ne-eqb _ 1 (c .before .if1 .left), ne-eqb _ 0 (c .if2 .left)) refl))

@@ -11,7 +11,7 @@ written : tie.Need-returns
 unfolding wordsOf
 written c =
     let start = c .before .before .before .before .before .before .before in
-    rw (c .before .before .before .index-number .ensures, c .before .before .inputs-of .ensures, c .before .in-order .ensures, c .in-order2 .ensures)
+    rw (c .before .before .before .index-code .ensures, c .before .before .flow-code .ensures, c .before .in-order .ensures, c .in-order2 .ensures)
     (write-five (start .args .words .now) (start .args .at) _ _ _ _ _ (start .pre))
 
 pub write-scan-spec : {M : Type 1} → statement M

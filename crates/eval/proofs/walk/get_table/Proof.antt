@@ -1,7 +1,7 @@
 -- `get_table` meets its contract, number by number.
 use mathlib.Core.Path.{refl}
 use borrow.Author.Needs.{needs}
-use Rattle.eval.proofs.Words.{third-index}
+use Rattle.plan.proofs.Codes.{third-index}
 use Rattle.eval.proofs.walk.get_table.Statement.{statement}
 use Rattle.eval.proofs.walk.get_table.Tie as tie
 
