@@ -120,14 +120,14 @@ fn part_at(words: &[u64], at: usize, width: usize) -> Part
     requires { ⌜ 0 < width ⌝ }
     ensures { λ r. ⌜ r ≡ partAt (now (words .entry)) at width ⌝ }
 {
-    let length = words.len();
-    if length <= at {
-        return no_part(length);
+    let size = words.len();
+    if size <= at {
+        return no_part(size);
     }
     let count = words[at] as usize;
     let start = at + 1;
-    if (length - start) / width < count {
-        return no_part(length);
+    if (size - start) / width < count {
+        return no_part(size);
     }
     let taken = count * width;
     Part {
@@ -139,15 +139,15 @@ fn part_at(words: &[u64], at: usize, width: usize) -> Part
     }
 }
 
-fn no_part(length: usize) -> Part
-    ensures { λ r. ⌜ r ≡ noPart length ⌝ }
+fn no_part(size: usize) -> Part
+    ensures { λ r. ⌜ r ≡ noPart size ⌝ }
 {
     Part {
         inside: false,
         at: 0,
         count: 0,
         length: 0,
-        next: length,
+        next: size,
     }
 }
 
@@ -155,11 +155,11 @@ fn no_part(length: usize) -> Part
 pub fn items(words: &[u64], at: usize, count: usize) -> &[u64]
     ensures { λ r. ⌜ now r ≡ take count (drop at (now (words .entry))) ⌝ }
 {
-    let length = words.len();
-    if length <= at {
+    let size = words.len();
+    if size <= at {
         return &words[..0];
     }
-    if length - at < count {
+    if size - at < count {
         return &words[at..];
     }
     let end = at + count;

@@ -78,25 +78,25 @@ fn ends_in(words: &[u64]) -> &[u64]
 fn say_outside(out: &mut [u8]) -> Opening
     ensures { λ r. ⌜ Opens outside (now (out .entry)) r (now (out .exit)) ⌝ }
 {
-    let length = pieces::write(b"outside the layout\n", 0, out);
-    only(length)
+    let size = pieces::write(b"outside the layout\n", 0, out);
+    only(size)
 }
 
 fn say_refusal(verdict: Verdict, out: &mut [u8]) -> Opening
     ensures { λ r. ⌜ Opens (Opening·refusal verdict) (now (out .entry)) r (now (out .exit)) ⌝ }
 {
-    let length = write_verdict(verdict, out);
-    only(length)
+    let size = write_verdict(verdict, out);
+    only(size)
 }
 
-fn only(length: usize) -> Opening
-    ensures { λ r. ⌜ r ≡ record { rows = false; plan = emptyPlan; length = length } ⌝ }
+fn only(size: usize) -> Opening
+    ensures { λ r. ⌜ r ≡ record { rows = false; plan = emptyPlan; length = size } ⌝ }
 {
     let plan = Plan::empty();
     Opening {
         rows: false,
         plan,
-        length,
+        length: size,
     }
 }
 
@@ -193,13 +193,13 @@ fn text_fault(plan: Plan, names: &[u8], ends: &[usize], out: &[u8]) -> Verdict
     measured.verdict
 }
 
-fn beside_cost(length: usize) -> usize
-    ensures { λ r. ⌜ r ≡ length - costBytes ⌝ }
+fn beside_cost(size: usize) -> usize
+    ensures { λ r. ⌜ r ≡ size - costBytes ⌝ }
 {
-    if length < COST_BYTES {
+    if size < COST_BYTES {
         return 0;
     }
-    length - COST_BYTES
+    size - COST_BYTES
 }
 
 fn evaluation_fault(words: &[u64], plan: Plan) -> Verdict

@@ -53,13 +53,13 @@ fn later(at: usize, count: usize) -> usize
 }
 
 // How many of so many bytes lie within a buffer of some length.
-fn fitting(count: usize, at: usize, length: usize) -> usize
-    ensures { λ r. ⌜ r ≡ min count (length - at) ⌝ }
+fn fitting(count: usize, at: usize, size: usize) -> usize
+    ensures { λ r. ⌜ r ≡ min count (size - at) ⌝ }
 {
-    if length <= at {
+    if size <= at {
         return 0;
     }
-    let room = length - at;
+    let room = size - at;
     if room < count { room } else { count }
 }
 

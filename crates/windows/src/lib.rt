@@ -83,13 +83,13 @@ fn fill<'a>(
 }
 
 // The words of as many whole rows as fit, and of at most so many.
-fn room_for(left: u64, width: usize, length: usize) -> usize
-    ensures { λ r. ⌜ r ≡ min left (length / width) * width ⌝ }
+fn room_for(left: u64, width: usize, size: usize) -> usize
+    ensures { λ r. ⌜ r ≡ min left (size / width) * width ⌝ }
 {
     if width == 0 {
         return 0;
     }
-    let fitting = length / width;
+    let fitting = size / width;
     if left < fitting as u64 {
         return left as usize * width;
     }
