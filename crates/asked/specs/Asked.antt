@@ -66,6 +66,6 @@ endOf ws i = cond (ltb i (length ws)) (getD ws i 0) (cond (eqb (length ws) 0) 0 
 abbrev pub endsAfter : List ℕ → ℕ → List ℕ
 endsAfter ws room = tabled (endOf ws) room
 
--- so many are given, and one for each constant, as far as there is room
+-- how many ends there are: those given, and one for each constant, as far as there is room
 unfoldable pub endsCount : ℕ → ℕ → ℕ → ℕ
 endsCount given constants room = min (given + constants) room

@@ -11,7 +11,7 @@ use Rattle.asked.specs.declared.Parts.{Parts}
 abbrev pub noPart : ℕ → Part
 noPart end = record { inside = false; at = 0; count = 0; length = 0; next = end }
 
--- a part whose count is n, from a place on: its items of so many words follow the count
+-- a part whose count n stands at a place: its items, of `width` words each, follow the count
 abbrev pub partFrom : ℕ → ℕ → ℕ → Part
 partFrom at n width = record { inside = true; at = at + 1; count = n; length = n * width; next = at + 1 + n * width }
 

@@ -1,5 +1,5 @@
 // What the numbers of the program's input say (docs/LAYOUT.md, "What the numbers say"): a header of four numbers, and seven parts, each
-// a count and so many items.
+// a count and then as many items.
 use capacity::MAX_SELECTS;
 use capacity::MAX_SLOTS;
 use capacity::MAX_STATEMENTS;
@@ -115,7 +115,7 @@ pub fn find_parts(words: &[u64]) -> Parts
     }
 }
 
-// The part whose count stands at a place, of items of so many words.
+// The part whose count stands at a place. Each of its items is `width` words.
 fn part_at(words: &[u64], at: usize, width: usize) -> Part
     requires { ⌜ 0 < width ⌝ }
     ensures { λ r. ⌜ r ≡ partAt (now (words .entry)) at width ⌝ }
@@ -151,7 +151,7 @@ fn no_part(size: usize) -> Part
     }
 }
 
-// The words from a place on, up to so many.
+// The words from a place on, at most `count`.
 pub fn items(words: &[u64], at: usize, count: usize) -> &[u64]
     ensures { λ r. ⌜ now r ≡ take count (drop at (now (words .entry))) ⌝ }
 {
@@ -293,7 +293,7 @@ fn read_selects(words: &[u64], count: usize) -> Selects
     Selects { items, count }
 }
 
-// The bytes of names, to the front of a buffer; where there is no room for them, or one is no byte, nothing is written.
+// The bytes of names, to the front of a buffer. Where there is no room for them, or a number is larger than a byte, nothing is written.
 pub fn read_bytes(words: &[u64], bytes: &mut [u8]) -> bool
     ensures { λ r. ⌜ r ≡ bytesFit (now (words .entry)) (length (now (bytes .entry))) ⌝ }
     ensures { λ r. ⌜ now (bytes .exit) ≡ bytesAfter (now (words .entry)) (now (bytes .entry)) ⌝ }
@@ -344,7 +344,7 @@ fn end_at(words: &[u64], i: usize) -> usize
     words[given - 1] as usize
 }
 
-// How many ends there are with one for each constant, as far as there is room for them.
+// How many ends there are, those given and one for each constant, as far as there is room for them.
 pub fn count_ends(given: usize, constants: usize, room: usize) -> usize
     ensures { λ r. ⌜ r ≡ endsCount given constants room ⌝ }
 {

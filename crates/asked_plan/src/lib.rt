@@ -12,7 +12,7 @@ pub struct Answer {
     pub cost: u64,
 }
 
-// The plan for a question, and its cost. Refused, the empty plan and no cost.
+// The plan for a question, and its cost; where it is refused, the empty plan and a cost of 0.
 pub fn plan_asked(words: &[u64]) -> Answer
     ensures { λ r. ⌜ r ≡ answerOf (now (words .entry)) ⌝ }
 {

@@ -1,4 +1,4 @@
--- No numbers are no question: a text outside the layout, of which none are read, gets the fixed line.
+-- No numbers are not a question: a text outside the layout, of which none are read, gets the fixed line.
 use mathlib.Core.Path.{_≡_, refl}
 use Prim.Native.Nat.{ℕ}
 use mathlib.Core.List.{[]}

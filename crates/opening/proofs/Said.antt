@@ -149,7 +149,7 @@ module _ (p : Plan) (cost : ℕ) (names ends l : List ℕ) (word : cost < 2 ^ 64
 pub none-written : (l : List ℕ) → length l ≤ largest → Line [] l 0 l
 none-written l h = record { is-written = written-none (omega arith) h; fits = λ k. omega arith }
 
--- the line of numbers that are no question
+-- the line of numbers that are not a question
 pub outside-written : (l l′ : List ℕ) (n : ℕ) → Written (outside .text) 0 l n l′ → Line (outside .text) l n l′
 outside-written l l′ n w = record { is-written = w; fits = λ h. omega (arith, w .position-is) }
 

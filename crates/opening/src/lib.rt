@@ -1,5 +1,5 @@
-// What the program says of a question before any rows (docs/LAYOUT.md, "What it writes"): the plan text and the cost; or the first
-// refusal, or that the numbers are no question, and then no rows follow.
+// What the program says of a question before any rows (docs/LAYOUT.md, "What it writes"): the plan text and the cost; or, with no rows
+// after it, the first refusal or that the numbers are not a question.
 use asked::MAX_ENDS;
 use plan::Plan;
 use refusal::Verdict;
@@ -115,7 +115,7 @@ fn write_refusal(number: u8, place: usize, out: &mut [u8]) -> usize
     reply::write_refusal(number, place, 0, out)
 }
 
-// Of a question that was planned: its names are read.
+// What is said of a question that was planned. First its names are read.
 fn open_planned(words: &[u64], plan: Plan, cost: u64, out: &mut [u8]) -> Opening
     requires { ⌜ isQuestion (now words) ≡ true ⌝ }
     ensures { λ r. ⌜ Opens (openedWith (now (words .entry)) plan cost (namesOf (now (words .entry))) (endsOf (now (words .entry)) (plan .«slot_count»)) (length (now (out .entry)))) (now (out .entry)) r (now (out .exit)) ⌝ }
@@ -127,7 +127,8 @@ fn open_planned(words: &[u64], plan: Plan, cost: u64, out: &mut [u8]) -> Opening
     open_named(words, plan, cost, &names[..count], out)
 }
 
-// And then their ends. The buffer has room for one more than a plan has slots: more are too many either way.
+// Then the ends of the names. The buffer has room for one end more than a plan can have slots: where it is full, there are too many, and
+// the names are refused.
 fn open_named(words: &[u64], plan: Plan, cost: u64, names: &[u8], out: &mut [u8]) -> Opening
     ensures { λ r. ⌜ Opens (openedWith (now (words .entry)) plan cost (now (names .entry)) (endsOf (now (words .entry)) (plan .«slot_count»)) (length (now (out .entry)))) (now (out .entry)) r (now (out .exit)) ⌝ }
 {
@@ -150,7 +151,7 @@ fn constants_of(slots: usize, variables: u64) -> usize
     (slots - variables) as usize
 }
 
-// With names and ends: a refusal, or the plan text and the cost.
+// Then a refusal is written, or the plan text and the cost.
 fn open_with(
     words: &[u64],
     plan: Plan,
@@ -184,7 +185,7 @@ fn showing_fault(words: &[u64], plan: Plan, names: &[u8], ends: &[usize], out: &
     evaluation_fault(words, plan)
 }
 
-// The text has what is left of the buffer beside the cost line.
+// The refusal of the plan text. The text may take the whole buffer but for the longest cost line.
 fn text_fault(plan: Plan, names: &[u8], ends: &[usize], out: &[u8]) -> Verdict
     ensures { λ r. ⌜ r ≡ textFault plan (now (names .entry)) (now (ends .entry)) (length (now (out .entry)) - costBytes) ⌝ }
 {

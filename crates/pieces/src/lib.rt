@@ -41,7 +41,7 @@ fn write_digit(digit: u64, at: usize, out: &mut [u8]) -> usize
     write(&piece, at, out)
 }
 
-// The position that many bytes on.
+// The position `count` bytes after another.
 fn later(at: usize, count: usize) -> usize
     ensures { λ r. ⌜ r ≡ after at count ⌝ }
 {
@@ -52,7 +52,7 @@ fn later(at: usize, count: usize) -> usize
     }
 }
 
-// How many of so many bytes lie within a buffer of some length.
+// How many of `count` bytes, written from `at` on, lie within a buffer of `size` bytes.
 fn fitting(count: usize, at: usize, size: usize) -> usize
     ensures { λ r. ⌜ r ≡ min count (size - at) ⌝ }
 {

@@ -51,7 +51,7 @@ room-within left width size =
     let a : min left (size / width) * width ≤ size / width * width = mul-le-mul-right width (min-le-right left (size / width)) in
     omega (arith, div-mul-le-self size width)
 
--- so many words: of no rows, of all that are to be shown, or of as many as fit
+-- the words of a window: of no rows, of all that are to be shown, or of as many as fit
 module _ (left width size : ℕ) where
   pub room-none : width ≡ 0 → 0 ≡ min left (size / width) * width
   room-none e = rw e (omega arith)

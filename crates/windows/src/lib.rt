@@ -82,7 +82,7 @@ fn fill<'a>(
     eval::evaluate(plan, aevt, avet, eavt, from, &mut rows[..room])
 }
 
-// The words of as many whole rows as fit, and of at most so many.
+// How many words the rows of a window take: as many whole rows as fit in `size` words, and at most `left`.
 fn room_for(left: u64, width: usize, size: usize) -> usize
     ensures { λ r. ⌜ r ≡ min left (size / width) * width ⌝ }
 {
