@@ -76,20 +76,11 @@ pub fn go_on(words: &[u64], part: Part, rows: &mut [u64], out: &mut [u8]) -> Par
     ensures { λ r. ⌜ GoesOn (now (words .entry)) part (now (rows .entry)) (now (out .entry)) r (now (rows .exit)) (now (out .exit)) ⌝ }
 {
     let parts = asked::find_parts(words);
-    let aevt = parts.aevt;
-    let avet = parts.avet;
-    let eavt = parts.eavt;
+    let aevt = asked::items(words, parts.aevt);
+    let avet = asked::items(words, parts.avet);
+    let eavt = asked::items(words, parts.eavt);
     let plan = part.plan;
-    let window = windows::show(
-        plan,
-        asked::items(words, aevt.at, aevt.length),
-        asked::items(words, avet.at, avet.length),
-        asked::items(words, eavt.at, eavt.length),
-        part.from,
-        part.left,
-        rows,
-        out,
-    );
+    let window = windows::show(plan, aevt, avet, eavt, part.from, part.left, rows, out);
     let verdict = window.verdict;
     Part {
         verdict,

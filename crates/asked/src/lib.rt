@@ -1,5 +1,5 @@
 // What the numbers of the program's input say (docs/LAYOUT.md, "What the numbers say"): a header of four numbers, and seven parts, each
-// a count and then as many items.
+// a count and then as many items. `find_parts` finds the parts; the functions that read from them are given the parts that were found.
 use capacity::MAX_SELECTS;
 use capacity::MAX_SLOTS;
 use capacity::MAX_STATEMENTS;
@@ -15,10 +15,10 @@ ghost use mathlib.Core.Path.{_≡_};
 ghost use mathlib.Core.Bool.{true};
 ghost use mathlib.Core.List.{_++_};
 ghost use Prim.Native.Nat.{_<_, _≤_};
-ghost use lib.ListN.{length, take, drop, getD};
+ghost use lib.ListN.{length, drop, getD};
 ghost use Rattle.capacity.specs.Capacity.{maxStatements};
-ghost use Rattle.asked.specs.Parts.{noPart, partAt, partsOf, areKinds, areBytes, insideOf};
-ghost use Rattle.asked.specs.Asked.{varOf, valueOf, statementOf, statementsOf, selectsOf, queryOf, bytesFit, bytesAfter, endOf, endsAfter, endsCount};
+ghost use Rattle.asked.specs.Parts.{noPart, partAt, partsOf, itemsOf, areKinds, areBytes, insideWith};
+ghost use Rattle.asked.specs.Asked.{varOf, valueOf, statementOf, statementsOf, selectsOf, queryWith, bytesFit, bytesAfter, endOf, endsAfter, endsCount};
 
 // A part of the input: where its items begin, how many they are, how many words they take, and where the next part begins. One that
 // is not there has no items, and nothing comes after it.
@@ -69,12 +69,11 @@ const LAST_BYTE: u64 = 255;
 // An end for each slot that a plan can have, and one more, so that too many are seen.
 pub const MAX_ENDS: usize = MAX_SLOTS + 1;
 
-// Whether the input is in the layout: the last part is there and nothing follows it, the task and the kinds of the statements are
-// known, and the bytes of names are bytes.
-pub fn is_inside(words: &[u64]) -> bool
-    ensures { λ r. ⌜ r ≡ insideOf (now (words .entry)) ⌝ }
+// Whether an input of these parts is in the layout: the last part is there and nothing follows it, the task and the kinds of the
+// statements are known, and the bytes of names are bytes.
+pub fn is_inside(words: &[u64], parts: Parts) -> bool
+    ensures { λ r. ⌜ r ≡ insideWith (now (words .entry)) parts ⌝ }
 {
-    let parts = find_parts(words);
     let last = parts.eavt;
     if !last.inside {
         return false;
@@ -85,12 +84,10 @@ pub fn is_inside(words: &[u64]) -> bool
     if SEARCH < word_at(words, TASK) {
         return false;
     }
-    let statements = parts.statements;
-    if !are_kinds(items(words, statements.at, statements.length)) {
+    if !are_kinds(items(words, parts.statements)) {
         return false;
     }
-    let names = parts.names;
-    are_bytes(items(words, names.at, names.length))
+    are_bytes(items(words, parts.names))
 }
 
 // The parts of an input.
@@ -151,18 +148,19 @@ fn no_part(size: usize) -> Part
     }
 }
 
-// The words from a place on, at most `count`.
-pub fn items(words: &[u64], at: usize, count: usize) -> &[u64]
-    ensures { λ r. ⌜ now r ≡ take count (drop at (now (words .entry))) ⌝ }
+// The words of a part's items, as far as they are there.
+pub fn items(words: &[u64], part: Part) -> &[u64]
+    ensures { λ r. ⌜ now r ≡ itemsOf (now (words .entry)) part ⌝ }
 {
     let size = words.len();
+    let at = part.at;
     if size <= at {
         return &words[..0];
     }
-    if size - at < count {
+    if size - at < part.length {
         return &words[at..];
     }
-    let end = at + count;
+    let end = at + part.length;
     &words[at..end]
 }
 
@@ -203,18 +201,12 @@ fn are_bytes(words: &[u64]) -> bool
     true
 }
 
-// The query that an input asks.
-pub fn read_query(words: &[u64]) -> Query
-    ensures { λ r. ⌜ r ≡ queryOf (now (words .entry)) ⌝ }
+// The query that an input of these parts asks.
+pub fn read_query(words: &[u64], parts: Parts) -> Query
+    ensures { λ r. ⌜ r ≡ queryWith (now (words .entry)) parts ⌝ }
 {
-    let parts = find_parts(words);
-    let statements = parts.statements;
-    let selects = parts.selects;
-    let where_statements = read_statements(
-        items(words, statements.at, statements.length),
-        statements.count,
-    );
-    let select = read_selects(items(words, selects.at, selects.length), selects.count);
+    let where_statements = read_statements(items(words, parts.statements), parts.statements.count);
+    let select = read_selects(items(words, parts.selects), parts.selects.count);
     Query {
         variable_count: word_at(words, VARIABLES),
         where_statements,

@@ -2,10 +2,10 @@
 use mathlib.Core.Path.{_≡_, refl}
 use Prim.Native.Nat.{ℕ}
 use mathlib.Core.List.{[]}
-use Rattle.asked.specs.Parts.{partAt, partsOf, insideOf}
+use Rattle.asked.specs.Parts.{partAt, partsOf, insideWith}
 use Rattle.opening.specs.Question.{isQuestion}
 use Rattle.opening.specs.Opening.{outside, openingOf}
 
 pub nothing-outside : (room : ℕ) → openingOf [] room ≡ outside
-unfolding openingOf isQuestion insideOf partsOf partAt
+unfolding openingOf isQuestion insideWith partsOf partAt
 nothing-outside room = refl
