@@ -36,7 +36,7 @@ pub goes-on : {ws a b c rows out rows′ out′ : List ℕ} (p : Part) {q : Part
     → Shows (p .plan) (tablesOf a b c) (p .from) (p .left) rows out w rows′ out′ → GoesOn ws p rows out (partOf (p .plan) w) rows′ out′
 unfolding nextPart
 goes-on {ws} {a} {b} {c} {rows} {out} {rows′} {out′} p {q} {w} e f g h s =
-    let t = subst (λ (ts : Tables). Shows (p .plan) ts (p .from) (p .left) rows out w rows′ out′) (tables-are ws q a b c e f g h) s in
+    let t = subst (λ (ts : Tables). Shows (p .plan) ts (p .from) (p .left) rows out w rows′ out′) (tables-are ws q e a b c f g h) s in
     record { part-is = ap (partOf (p .plan)) (t .answer-is); rows-are = t .rows-are; out-is = t .out-is; fits = t .fits }
 
 -- a run ends: with each part fewer are to come

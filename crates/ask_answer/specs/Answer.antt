@@ -10,7 +10,7 @@ use Rattle.opening.specs.Opening.{outside, openingOf}
 use Rattle.windows.specs.Windows.{rowsText}
 use Rattle.ask_answer.specs.Capacity.{textBytes, wordCount}
 
--- "Numbers", "The program's capacities": a text is read where it is shorter than so many bytes, all of it is in the layout, and there is room
+-- "Numbers", "The program's capacities": a text is read where it is shorter than `textBytes`, all of it is in the layout, and there is room
 -- for its numbers
 unfoldable pub isRead : List ℕ → ℕ → Bool
 isRead text room = ltb (length text) textBytes && (said text .inside && leb (length (said text .words)) room)

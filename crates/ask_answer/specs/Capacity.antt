@@ -9,6 +9,6 @@ textBytes = 2097152
 abbrev pub wordCount : ℕ
 wordCount = 131072
 
--- as many words of rows are read at a time
+-- the words of rows that are read at a time
 abbrev pub windowWords : ℕ
 windowWords = 65536

@@ -18,7 +18,7 @@ use Rattle.ask_answer.specs.declared.Part.{Part}
 use Rattle.ask_answer.specs.Capacity.{textBytes}
 use Rattle.ask_answer.specs.Answer.{isRead, firstRow, rowsAsked}
 
--- the numbers of a text, for a buffer of so many words; none where it is not read
+-- the numbers of a text, for a buffer of `room` words; none where it is not read
 unfoldable pub numbersIn : List ℕ → ℕ → List ℕ
 numbersIn text room = cond (isRead text room) (said text .words) []
 
@@ -31,7 +31,7 @@ pub record Reads (text words : List ℕ) (count : ℕ) (words′ : List ℕ) : T
   pub count-is : count ≡ length (numbersIn text (length words))
   pub words-are : words′ ≡ wordsRead text words
 
--- the first part of the answer is what is said of the numbers, for a buffer of so many bytes. It is the last where no rows follow; else those
+-- the first part of the answer is what is said of the numbers, for a buffer of `room` bytes. It is the last where no rows follow; else those
 -- that are asked for are left to show
 unfoldable pub firstPart : List ℕ → ℕ → Part
 firstPart ws room =
@@ -58,7 +58,8 @@ pub record Begins (ws out : List ℕ) (r : Part) (out′ : List ℕ) : Type 0 wh
   pub out-is : out′ ≡ sets out 0 (openingOf ws (length out) .text)
   pub fits : lineBytes ≤ length out → r .length ≤ length out
 
--- the next part does, and its rows in front of the buffer for them. It lies within a buffer that has room for so many words
+-- the next part does, and its rows in front of the buffer for them. It fits where the buffer for bytes has room for as many words, each as long as
+-- can be, as the buffer for rows has, and for the last line
 pub record GoesOn (ws : List ℕ) (p : Part) (rows out : List ℕ) (r : Part) (rows′ out′ : List ℕ) : Type 0 where
   pub part-is : r ≡ nextPart ws p (length rows)
   pub rows-are : rows′ ≡ rowsAfter (p .plan) (tablesIn ws) (p .from) (p .left) rows

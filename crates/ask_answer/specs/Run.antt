@@ -14,7 +14,7 @@ pub data Rest (ws : List ℕ) : Part → List ℕ → List ℕ → List ℕ → 
   goes : {p r : Part} {rows out rows′ out′ bytes : List ℕ} → p .last ≡ false → GoesOn ws p rows out r rows′ out′ → Rest ws r rows′ out′ bytes
       → Rest ws p rows out (take (r .length) out′ ++ bytes)
 
--- at most so many parts are to come: none after the last; else one for each row that is left to show, and one more
+-- the most parts that are to come: none after the last; else one for each row that is left to show, and one more
 abbrev pub toCome : Part → ℕ
 toCome p = cond (p .last) 0 (p .left + 1)
 

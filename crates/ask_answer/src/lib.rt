@@ -7,8 +7,8 @@ ghost use Prim.Native.Nat.{_-_, _^_, min};
 ghost use lib.ListN.{length};
 ghost use Rattle.ask_answer.specs.Parts.{Reads, Begins, GoesOn};
 
-// A part of the answer: whether evaluation is refused; how many bytes it has and whether it is the last; and how to go on, the plan whose
-// rows follow, the number of the next row, and how many are left to show.
+// A part of the answer: whether evaluation is refused; how many bytes it has and whether it is the last; and for the part after it the
+// plan whose rows follow, the number of the next row, and how many are left to show.
 pub struct Part {
     pub verdict: Verdict,
     pub length: usize,
@@ -18,16 +18,17 @@ pub struct Part {
     pub left: u64,
 }
 
-// A text is shorter than this many bytes, and has at most this many numbers.
+// A text is shorter than this, in bytes.
 pub const TEXT_BYTES: usize = 2097152;
 
+// The numbers of a text that there is room for.
 pub const WORDS: usize = 131072;
 
-// As many words of rows are read at a time.
+// The words of rows that are read at a time.
 pub const WINDOW: usize = 65536;
 
 // Read the numbers of a text into the front of a buffer, and answer how many they are: none where the text is outside the layout, or
-// has too many. A text that fills its buffer may go on, and is not read.
+// has too many. A text that fills its buffer may be longer than the buffer, and is not read.
 pub fn read_question(text: &[u8], words: &mut [u64]) -> usize
     ensures { λ r. ⌜ Reads (now (text .entry)) (now (words .entry)) r (now (words .exit)) ⌝ }
 {
@@ -56,7 +57,7 @@ pub fn begin(words: &[u64], out: &mut [u8]) -> Part
     }
 }
 
-// At most so many rows, and no more than have a number from one on.
+// How many rows to show: at most `most`, and no more than there are row numbers from `from` on.
 fn with_numbers(from: u64, most: u64) -> u64
     ensures { λ r. ⌜ r ≡ min most (2 ^ 64 - from) ⌝ }
 {
@@ -67,25 +68,17 @@ fn with_numbers(from: u64, most: u64) -> u64
     if numbers < most { numbers } else { most }
 }
 
-// Write the part after one, the next window of rows, to the front of a buffer. On a refusal of evaluation both buffers stay as they are.
+// Write the part that follows another, the next window of rows, to the front of a buffer. On a refusal of evaluation both buffers stay as
+// they are.
 pub fn go_on(words: &[u64], part: Part, rows: &mut [u64], out: &mut [u8]) -> Part
     ensures { λ r. ⌜ GoesOn (now (words .entry)) part (now (rows .entry)) (now (out .entry)) r (now (rows .exit)) (now (out .exit)) ⌝ }
 {
     let parts = asked::find_parts(words);
-    let aevt = parts.aevt;
-    let avet = parts.avet;
-    let eavt = parts.eavt;
+    let aevt = asked::items(words, parts.aevt);
+    let avet = asked::items(words, parts.avet);
+    let eavt = asked::items(words, parts.eavt);
     let plan = part.plan;
-    let window = windows::show(
-        plan,
-        asked::items(words, aevt.at, aevt.length),
-        asked::items(words, avet.at, avet.length),
-        asked::items(words, eavt.at, eavt.length),
-        part.from,
-        part.left,
-        rows,
-        out,
-    );
+    let window = windows::show(plan, aevt, avet, eavt, part.from, part.left, rows, out);
     let verdict = window.verdict;
     Part {
         verdict,

@@ -20,8 +20,8 @@ use Rattle.query.specs.declared.Selects.{Selects}
 use Rattle.query.specs.declared.Query.{Query}
 use Rattle.query.specs.Query.{largest, zeroVar, zeroStatement}
 use Rattle.asked.specs.declared.Parts.{Parts}
-use Rattle.asked.specs.Parts.{partsOf, itemsOf, areBytes}
-use Rattle.asked.specs.Asked.{varOf, valueOf, statementOf, statementsOf, selectsOf, queryOf, bytesFit, bytesAfter, endOf}
+use Rattle.asked.specs.Parts.{itemsOf, areBytes}
+use Rattle.asked.specs.Asked.{varOf, valueOf, statementOf, statementsOf, selectsOf, queryWith, bytesFit, bytesAfter, endOf}
 
 pub var-past : (n : ℕ) → largest < n → record { 0 = largest } ≡ varOf n
 unfolding varOf
@@ -55,11 +55,11 @@ pub selects-are : (ws : List ℕ) (n i : ℕ) (items : List Var) → items ≡ p
 unfolding selectsOf
 selects-are ws n i items e h = rw (e, h)
 
-pub query-is : (ws : List ℕ) (p : Parts) (v : ℕ) (s : Statements) (t : Selects) → p ≡ partsOf ws → v ≡ getD ws 1 0
+pub query-is : (ws : List ℕ) (p : Parts) (v : ℕ) (s : Statements) (t : Selects) → v ≡ getD ws 1 0
     → s ≡ statementsOf (itemsOf ws (p .statements)) (p .statements .count) → t ≡ selectsOf (itemsOf ws (p .selects)) (p .selects .count)
-    → _≡_ {A = Query} (record { «variable_count» = v; «where_statements» = s; select = t }) (queryOf ws)
-unfolding queryOf
-query-is ws p v s t hp hv hs ht = rw (hs, ht, hv, hp)
+    → _≡_ {A = Query} (record { «variable_count» = v; «where_statements» = s; select = t }) (queryWith ws p)
+unfolding queryWith
+query-is ws p v s t hv hs ht = rw (hs, ht, hv)
 
 -- bytes of names
 module _ (ws buffer : List ℕ) where

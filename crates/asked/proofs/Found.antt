@@ -12,7 +12,7 @@ use lib.Dec.{leb}
 use borrow.Author.Tests.{leb-true, lt-leb, le-leb, lt-ltb, le-ltb}
 use Rattle.asked.specs.declared.Part.{Part}
 use Rattle.asked.specs.declared.Parts.{Parts}
-use Rattle.asked.specs.Parts.{noPart, partFrom, partAt, partsOf, itemsOf, areKinds, areBytes, insideOf}
+use Rattle.asked.specs.Parts.{noPart, partFrom, partAt, partsOf, itemsOf, areKinds, areBytes, insideWith}
 
 module _ (ws : List ℕ) (at width : ℕ) where
   pub part-past : length ws ≤ at → noPart (length ws) ≡ partAt ws at width
@@ -110,26 +110,26 @@ module _ (ws : List ℕ) (i : ℕ) where
     kinds-on k = rw (four, le-leb (getD ws (i + 2) 0) 1 k)
 
 -- the tests of the layout, in their order
-module _ (ws : List ℕ) (p : Parts) (is : p ≡ partsOf ws) where
-  pub outside-parts : p .eavt .inside ≡ false → false ≡ insideOf ws
-  unfolding insideOf
-  outside-parts h = rw (← is, h)
+module _ (ws : List ℕ) (p : Parts) where
+  pub outside-parts : p .eavt .inside ≡ false → false ≡ insideWith ws p
+  unfolding insideWith
+  outside-parts h = rw h
 
   module _ (parts : p .eavt .inside ≡ true) where
-    pub outside-more : p .eavt .next < length ws → false ≡ insideOf ws
-    unfolding insideOf
-    outside-more h = rw (← is, parts, lt-leb (length ws) (p .eavt .next) h)
+    pub outside-more : p .eavt .next < length ws → false ≡ insideWith ws p
+    unfolding insideWith
+    outside-more h = rw (parts, lt-leb (length ws) (p .eavt .next) h)
 
     module _ (whole : length ws ≤ p .eavt .next) where
-      pub outside-task : 1 < getD ws 0 0 → false ≡ insideOf ws
-      unfolding insideOf
-      outside-task h = rw (← is, parts, le-leb (length ws) (p .eavt .next) whole, lt-leb (getD ws 0 0) 1 h)
+      pub outside-task : 1 < getD ws 0 0 → false ≡ insideWith ws p
+      unfolding insideWith
+      outside-task h = rw (parts, le-leb (length ws) (p .eavt .next) whole, lt-leb (getD ws 0 0) 1 h)
 
       module _ (task : getD ws 0 0 ≤ 1) where
-        pub outside-kinds : areKinds (itemsOf ws (p .statements)) ≡ false → false ≡ insideOf ws
-        unfolding insideOf
-        outside-kinds h = rw (← is, parts, le-leb (length ws) (p .eavt .next) whole, le-leb (getD ws 0 0) 1 task, h)
+        pub outside-kinds : areKinds (itemsOf ws (p .statements)) ≡ false → false ≡ insideWith ws p
+        unfolding insideWith
+        outside-kinds h = rw (parts, le-leb (length ws) (p .eavt .next) whole, le-leb (getD ws 0 0) 1 task, h)
 
-        pub inside-bytes : areKinds (itemsOf ws (p .statements)) ≡ true → areBytes (itemsOf ws (p .names)) ≡ insideOf ws
-        unfolding insideOf
-        inside-bytes h = rw (← is, parts, le-leb (length ws) (p .eavt .next) whole, le-leb (getD ws 0 0) 1 task, h)
+        pub inside-bytes : areKinds (itemsOf ws (p .statements)) ≡ true → areBytes (itemsOf ws (p .names)) ≡ insideWith ws p
+        unfolding insideWith
+        inside-bytes h = rw (parts, le-leb (length ws) (p .eavt .next) whole, le-leb (getD ws 0 0) 1 task, h)

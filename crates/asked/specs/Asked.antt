@@ -15,6 +15,7 @@ use Rattle.query.specs.declared.Statements.{Statements}
 use Rattle.query.specs.declared.Selects.{Selects}
 use Rattle.query.specs.declared.Query.{Query}
 use Rattle.query.specs.Query.{largest, zeroVar, zeroStatement}
+use Rattle.asked.specs.declared.Parts.{Parts}
 use Rattle.asked.specs.Parts.{partsOf, itemsOf, areBytes}
 
 -- a variable's number
@@ -42,13 +43,16 @@ unfoldable pub selectsOf : List ℕ → ℕ → Selects
 selectsOf ws n = record { items = padded zeroVar maxSelects (tabled (λ i. varOf (getD ws i 0)) (min n maxSelects)); count = n }
 
 -- the query that is asked
-unfoldable pub queryOf : List ℕ → Query
-queryOf ws =
+unfoldable pub queryWith : List ℕ → Parts → Query
+queryWith ws ps =
     record {
       «variable_count» = getD ws 1 0;
-      «where_statements» = statementsOf (itemsOf ws (partsOf ws .statements)) (partsOf ws .statements .count);
-      select = selectsOf (itemsOf ws (partsOf ws .selects)) (partsOf ws .selects .count);
+      «where_statements» = statementsOf (itemsOf ws (ps .statements)) (ps .statements .count);
+      select = selectsOf (itemsOf ws (ps .selects)) (ps .selects .count);
     }
+
+abbrev pub queryOf : List ℕ → Query
+queryOf ws = queryWith ws (partsOf ws)
 
 -- the names are bytes, and there is room for them
 unfoldable pub bytesFit : List ℕ → ℕ → Bool
@@ -66,6 +70,6 @@ endOf ws i = cond (ltb i (length ws)) (getD ws i 0) (cond (eqb (length ws) 0) 0 
 abbrev pub endsAfter : List ℕ → ℕ → List ℕ
 endsAfter ws room = tabled (endOf ws) room
 
--- so many are given, and one for each constant, as far as there is room
+-- how many ends there are: those given, and one for each constant, as far as there is room
 unfoldable pub endsCount : ℕ → ℕ → ℕ → ℕ
 endsCount given constants room = min (given + constants) room

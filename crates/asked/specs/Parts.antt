@@ -11,7 +11,7 @@ use Rattle.asked.specs.declared.Parts.{Parts}
 abbrev pub noPart : ℕ → Part
 noPart end = record { inside = false; at = 0; count = 0; length = 0; next = end }
 
--- a part whose count is n, from a place on: its items of so many words follow the count
+-- a part whose count n stands at a place: its items, of `width` words each, follow the count
 abbrev pub partFrom : ℕ → ℕ → ℕ → Part
 partFrom at n width = record { inside = true; at = at + 1; count = n; length = n * width; next = at + 1 + n * width }
 
@@ -50,7 +50,9 @@ areBytes [] = true
 areBytes (w ∷ ws) = leb w 255 && areBytes ws
 
 -- in the layout: the last part is there and nothing follows it, the task is 0 or 1, the statements' kinds are kinds, and the names' bytes bytes
-unfoldable pub insideOf : List ℕ → Bool
-insideOf ws =
-    partsOf ws .eavt .inside && (leb (length ws) (partsOf ws .eavt .next) && (leb (getD ws 0 0) 1
-    && (areKinds (itemsOf ws (partsOf ws .statements)) && areBytes (itemsOf ws (partsOf ws .names)))))
+unfoldable pub insideWith : List ℕ → Parts → Bool
+insideWith ws ps =
+    ps .eavt .inside && (leb (length ws) (ps .eavt .next) && (leb (getD ws 0 0) 1 && (areKinds (itemsOf ws (ps .statements)) && areBytes (itemsOf ws (ps .names)))))
+
+abbrev pub insideOf : List ℕ → Bool
+insideOf ws = insideWith ws (partsOf ws)

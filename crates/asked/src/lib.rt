@@ -1,5 +1,5 @@
 // What the numbers of the program's input say (docs/LAYOUT.md, "What the numbers say"): a header of four numbers, and seven parts, each
-// a count and so many items.
+// a count and then as many items. `find_parts` finds the parts; the functions that read from them are given the parts that were found.
 use capacity::MAX_SELECTS;
 use capacity::MAX_SLOTS;
 use capacity::MAX_STATEMENTS;
@@ -14,10 +14,10 @@ ghost use mathlib.Core.Path.{_≡_};
 ghost use mathlib.Core.Bool.{true};
 ghost use mathlib.Core.List.{_++_};
 ghost use Prim.Native.Nat.{_<_, _≤_};
-ghost use lib.ListN.{length, take, drop, getD};
+ghost use lib.ListN.{length, drop, getD};
 ghost use Rattle.capacity.specs.Capacity.{maxStatements};
-ghost use Rattle.asked.specs.Parts.{noPart, partAt, partsOf, areKinds, areBytes, insideOf};
-ghost use Rattle.asked.specs.Asked.{varOf, valueOf, statementOf, statementsOf, selectsOf, queryOf, bytesFit, bytesAfter, endOf, endsAfter, endsCount};
+ghost use Rattle.asked.specs.Parts.{noPart, partAt, partsOf, itemsOf, areKinds, areBytes, insideWith};
+ghost use Rattle.asked.specs.Asked.{varOf, valueOf, statementOf, statementsOf, selectsOf, queryWith, bytesFit, bytesAfter, endOf, endsAfter, endsCount};
 
 // A part of the input: where its items begin, how many they are, how many words they take, and where the next part begins. One that
 // is not there has no items, and nothing comes after it.
@@ -68,12 +68,11 @@ const LAST_BYTE: u64 = 255;
 // An end for each slot that a plan can have, and one more, so that too many are seen.
 pub const MAX_ENDS: usize = MAX_SLOTS + 1;
 
-// Whether the input is in the layout: the last part is there and nothing follows it, the task and the kinds of the statements are
-// known, and the bytes of names are bytes.
-pub fn is_inside(words: &[u64]) -> bool
-    ensures { λ r. ⌜ r ≡ insideOf (now (words .entry)) ⌝ }
+// Whether an input of these parts is in the layout: the last part is there and nothing follows it, the task and the kinds of the
+// statements are known, and the bytes of names are bytes.
+pub fn is_inside(words: &[u64], parts: Parts) -> bool
+    ensures { λ r. ⌜ r ≡ insideWith (now (words .entry)) parts ⌝ }
 {
-    let parts = find_parts(words);
     let last = parts.eavt;
     if !last.inside {
         return false;
@@ -84,12 +83,10 @@ pub fn is_inside(words: &[u64]) -> bool
     if SEARCH < word_at(words, TASK) {
         return false;
     }
-    let statements = parts.statements;
-    if !are_kinds(items(words, statements.at, statements.length)) {
+    if !are_kinds(items(words, parts.statements)) {
         return false;
     }
-    let names = parts.names;
-    are_bytes(items(words, names.at, names.length))
+    are_bytes(items(words, parts.names))
 }
 
 // The parts of an input.
@@ -114,19 +111,19 @@ pub fn find_parts(words: &[u64]) -> Parts
     }
 }
 
-// The part whose count stands at a place, of items of so many words.
+// The part whose count stands at a place. Each of its items is `width` words.
 fn part_at(words: &[u64], at: usize, width: usize) -> Part
     requires { ⌜ 0 < width ⌝ }
     ensures { λ r. ⌜ r ≡ partAt (now (words .entry)) at width ⌝ }
 {
-    let length = words.len();
-    if length <= at {
-        return no_part(length);
+    let size = words.len();
+    if size <= at {
+        return no_part(size);
     }
     let count = words[at] as usize;
     let start = at + 1;
-    if (length - start) / width < count {
-        return no_part(length);
+    if (size - start) / width < count {
+        return no_part(size);
     }
     let taken = count * width;
     Part {
@@ -138,30 +135,31 @@ fn part_at(words: &[u64], at: usize, width: usize) -> Part
     }
 }
 
-fn no_part(length: usize) -> Part
-    ensures { λ r. ⌜ r ≡ noPart length ⌝ }
+fn no_part(size: usize) -> Part
+    ensures { λ r. ⌜ r ≡ noPart size ⌝ }
 {
     Part {
         inside: false,
         at: 0,
         count: 0,
         length: 0,
-        next: length,
+        next: size,
     }
 }
 
-// The words from a place on, up to so many.
-pub fn items(words: &[u64], at: usize, count: usize) -> &[u64]
-    ensures { λ r. ⌜ now r ≡ take count (drop at (now (words .entry))) ⌝ }
+// The words of a part's items, as far as they are there.
+pub fn items(words: &[u64], part: Part) -> &[u64]
+    ensures { λ r. ⌜ now r ≡ itemsOf (now (words .entry)) part ⌝ }
 {
-    let length = words.len();
-    if length <= at {
+    let size = words.len();
+    let at = part.at;
+    if size <= at {
         return &words[..0];
     }
-    if length - at < count {
+    if size - at < part.length {
         return &words[at..];
     }
-    let end = at + count;
+    let end = at + part.length;
     &words[at..end]
 }
 
@@ -202,18 +200,12 @@ fn are_bytes(words: &[u64]) -> bool
     true
 }
 
-// The query that an input asks.
-pub fn read_query(words: &[u64]) -> Query
-    ensures { λ r. ⌜ r ≡ queryOf (now (words .entry)) ⌝ }
+// The query that an input of these parts asks.
+pub fn read_query(words: &[u64], parts: Parts) -> Query
+    ensures { λ r. ⌜ r ≡ queryWith (now (words .entry)) parts ⌝ }
 {
-    let parts = find_parts(words);
-    let statements = parts.statements;
-    let selects = parts.selects;
-    let where_statements = read_statements(
-        items(words, statements.at, statements.length),
-        statements.count,
-    );
-    let select = read_selects(items(words, selects.at, selects.length), selects.count);
+    let where_statements = read_statements(items(words, parts.statements), parts.statements.count);
+    let select = read_selects(items(words, parts.selects), parts.selects.count);
     Query {
         variable_count: word_at(words, VARIABLES),
         where_statements,
@@ -292,7 +284,7 @@ fn read_selects(words: &[u64], count: usize) -> Selects
     Selects { items, count }
 }
 
-// The bytes of names, to the front of a buffer; where there is no room for them, or one is no byte, nothing is written.
+// The bytes of names, to the front of a buffer. Where there is no room for them, or a number is larger than a byte, nothing is written.
 pub fn read_bytes(words: &[u64], bytes: &mut [u8]) -> bool
     ensures { λ r. ⌜ r ≡ bytesFit (now (words .entry)) (length (now (bytes .entry))) ⌝ }
     ensures { λ r. ⌜ now (bytes .exit) ≡ bytesAfter (now (words .entry)) (now (bytes .entry)) ⌝ }
@@ -343,7 +335,7 @@ fn end_at(words: &[u64], i: usize) -> usize
     words[given - 1] as usize
 }
 
-// How many ends there are with one for each constant, as far as there is room for them.
+// How many ends there are, those given and one for each constant, as far as there is room for them.
 pub fn count_ends(given: usize, constants: usize, room: usize) -> usize
     ensures { λ r. ⌜ r ≡ endsCount given constants room ⌝ }
 {

@@ -1,8 +1,6 @@
 -- Laws of what is planned for a question, case by case.
 use mathlib.Core.Path.{_≡_}
 use Prim.Native.Nat.{ℕ}
-use mathlib.Core.List.{List}
-use lib.ListN.{getD}
 use borrow.Author.Tests.{eq-eqb, ne-eqb}
 use Rattle.refusal.specs.declared.Refusal.{Refusal}
 use Rattle.refusal.specs.declared.Verdict.the-variants.{Fine, Refused}
@@ -14,18 +12,17 @@ use Rattle.search.specs.declared.Found.{Found}
 use Rattle.search.specs.Search.{searchOf}
 use Rattle.cost.specs.declared.Costed.{Costed}
 use Rattle.cost.specs.Cost.{costOf}
-use Rattle.asked.specs.Asked.{queryOf}
 use Rattle.asked_plan.specs.declared.Answer.{Answer}
-use Rattle.asked_plan.specs.Answer.{refusedWith, plannedFor, costedFor, answerOf}
+use Rattle.asked_plan.specs.Answer.{refusedWith, plannedFor, costedFor, answerWith}
 
-module _ (ws : List ℕ) (t : ℕ) (q : Query) (et : t ≡ getD ws 0 0) (eq : q ≡ queryOf ws) where
-  pub planned-search : (f : Found) → t ≡ 1 → f ≡ searchOf q → _≡_ {A = Planned} (record { verdict = f .verdict; plan = f .plan }) (plannedFor ws)
+module _ (t : ℕ) (q : Query) where
+  pub planned-search : (f : Found) → t ≡ 1 → f ≡ searchOf q → _≡_ {A = Planned} (record { verdict = f .verdict; plan = f .plan }) (plannedFor t q)
   unfolding plannedFor
-  planned-search f h e = rw (← et, eq-eqb t 1 h, ← eq, e)
+  planned-search f h e = rw (eq-eqb t 1 h, e)
 
-  pub planned-given : (p : Planned) → (t ≡ 1 → ⊥) → p ≡ planOf q → p ≡ plannedFor ws
+  pub planned-given : (p : Planned) → (t ≡ 1 → ⊥) → p ≡ planOf q → p ≡ plannedFor t q
   unfolding plannedFor
-  planned-given p h e = rw (← et, ne-eqb t 1 h, ← eq, e)
+  planned-given p h e = rw (ne-eqb t 1 h, e)
 
 module _ (p : Plan) (x : Costed) (e : x ≡ costOf p) where
   pub costed-refused : {r : Refusal} → x .verdict ≡ Refused r → refusedWith (x .verdict) ≡ costedFor p
@@ -36,11 +33,11 @@ module _ (p : Plan) (x : Costed) (e : x ≡ costOf p) where
   unfolding costedFor
   costed-fine h = rw (← e, h)
 
-module _ (ws : List ℕ) (x : Planned) (e : x ≡ plannedFor ws) where
-  pub answer-refused : {r : Refusal} → x .verdict ≡ Refused r → refusedWith (x .verdict) ≡ answerOf ws
-  unfolding answerOf
+module _ (t : ℕ) (q : Query) (x : Planned) (e : x ≡ plannedFor t q) where
+  pub answer-refused : {r : Refusal} → x .verdict ≡ Refused r → refusedWith (x .verdict) ≡ answerWith t q
+  unfolding answerWith
   answer-refused h = rw (← e, h)
 
-  pub answer-fine : x .verdict ≡ Fine → costedFor (x .plan) ≡ answerOf ws
-  unfolding answerOf
+  pub answer-fine : x .verdict ≡ Fine → costedFor (x .plan) ≡ answerWith t q
+  unfolding answerWith
   answer-fine h = rw (← e, h)

@@ -26,7 +26,7 @@ use Rattle.search.specs.Search.{Candidate, orders, candidates, notFound, firstL
 use Rattle.cost.specs.Cost.{costOf}
 use Rattle.asked.specs.Asked.{queryOf}
 use Rattle.asked_plan.specs.declared.Answer.{Answer}
-use Rattle.asked_plan.specs.Answer.{refusedWith, plannedFor, costedFor, answerOf}
+use Rattle.asked_plan.specs.Answer.{refusedWith, plannedFor, costedFor, answerWith, answerOf}
 
 -- a plan whose array of selects has the full length
 abbrev Sized : Plan → Type 0
@@ -62,21 +62,22 @@ found-sized q =
     by-cases Fine (c ∷ cs) = made-sized _ _ _ _ _
     by-cases (Refused r) cs = empty-sized
 
-planned-sized : (ws : List ℕ) → Sized (plannedFor ws .plan)
+planned-sized : (task : ℕ) (q : Query) → Sized (plannedFor task q .plan)
 unfolding plannedFor
-planned-sized ws = by-cases (eqb (getD ws 0 0) 1)
+planned-sized task q = by-cases (eqb task 1)
   where
-    by-cases : (t : Bool)
-        → Sized (cond {A = Planned} t (record { verdict = searchOf (queryOf ws) .verdict; plan = searchOf (queryOf ws) .plan }) (planOf (queryOf ws)) .plan)
-    by-cases true = found-sized (queryOf ws)
-    by-cases false = given-sized (queryOf ws)
+    by-cases : (t : Bool) → Sized (cond {A = Planned} t (record { verdict = searchOf q .verdict; plan = searchOf q .plan }) (planOf q) .plan)
+    by-cases true = found-sized q
+    by-cases false = given-sized q
 
 either-sized : (v : Verdict) (a : Answer) → Sized (a .plan) → Sized (unless {A = Answer} v refusedWith a .plan)
 either-sized Fine a h = h
 either-sized (Refused r) a h = empty-sized
 
 pub answer-sized : (ws : List ℕ) → Sized (answerOf ws .plan)
-unfolding answerOf costedFor
+unfolding answerWith costedFor
 answer-sized ws =
-    let p = plannedFor ws .plan in
-    either-sized (plannedFor ws .verdict) (costedFor p) (either-sized (costOf p .verdict) (record { verdict = Fine; plan = p; cost = costOf p .cost }) (planned-sized ws))
+    let planned = plannedFor (getD ws 0 0) (queryOf ws) in
+    let p = planned .plan in
+    either-sized (planned .verdict) (costedFor p)
+    (either-sized (costOf p .verdict) (record { verdict = Fine; plan = p; cost = costOf p .cost }) (planned-sized (getD ws 0 0) (queryOf ws)))

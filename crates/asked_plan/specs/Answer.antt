@@ -9,6 +9,7 @@ use Rattle.refusal.specs.declared.Verdict.the-variants.{Fine}
 use Rattle.refusal.specs.Verdict.{unless}
 use Rattle.plan.specs.declared.Plan.{Plan}
 use Rattle.plan.specs.Plan.{emptyPlan}
+use Rattle.query.specs.declared.Query.{Query}
 use Rattle.planner.specs.declared.Planned.{Planned}
 use Rattle.planner.specs.Planning.{planOf}
 use Rattle.search.specs.Search.{searchOf}
@@ -21,14 +22,17 @@ abbrev pub refusedWith : Verdict → Answer
 refusedWith v = record { verdict = v; plan = emptyPlan; cost = 0 }
 
 -- task 1 is the search, the other plans the statements in the order given
-unfoldable pub plannedFor : List ℕ → Planned
-plannedFor ws =
-    cond (eqb (getD ws 0 0) 1) (record { verdict = searchOf (queryOf ws) .verdict; plan = searchOf (queryOf ws) .plan }) (planOf (queryOf ws))
+unfoldable pub plannedFor : ℕ → Query → Planned
+plannedFor task q = cond (eqb task 1) (record { verdict = searchOf q .verdict; plan = searchOf q .plan }) (planOf q)
 
 -- a plan and its cost
 unfoldable pub costedFor : Plan → Answer
 costedFor p = unless (costOf p .verdict) refusedWith (record { verdict = Fine; plan = p; cost = costOf p .cost })
 
--- the plan of a question and its cost
-unfoldable pub answerOf : List ℕ → Answer
-answerOf ws = unless (plannedFor ws .verdict) refusedWith (costedFor (plannedFor ws .plan))
+-- the plan for a task and a query, and its cost
+unfoldable pub answerWith : ℕ → Query → Answer
+answerWith task q = unless (plannedFor task q .verdict) refusedWith (costedFor (plannedFor task q .plan))
+
+-- the plan of a question and its cost: the task is the header's first number
+abbrev pub answerOf : List ℕ → Answer
+answerOf ws = answerWith (getD ws 0 0) (queryOf ws)

@@ -1,9 +1,10 @@
 // What the program plans for the question that is asked: in the given order or by the search, and the plan's cost.
 use plan::Plan;
 use planner::Planned;
+use query::Query;
 use refusal::Verdict;
 ghost use mathlib.Core.Path.{_≡_};
-ghost use Rattle.asked_plan.specs.Answer.{refusedWith, plannedFor, costedFor, answerOf};
+ghost use Rattle.asked_plan.specs.Answer.{refusedWith, plannedFor, costedFor, answerWith};
 
 // Whether planning, the search or the cost is refused; the plan and its cost.
 pub struct Answer {
@@ -12,11 +13,11 @@ pub struct Answer {
     pub cost: u64,
 }
 
-// The plan for a question, and its cost. Refused, the empty plan and no cost.
-pub fn plan_asked(words: &[u64]) -> Answer
-    ensures { λ r. ⌜ r ≡ answerOf (now (words .entry)) ⌝ }
+// The plan for a task and a query, and its cost; where it is refused, the empty plan and a cost of 0.
+pub fn plan_asked(task: u64, query: Query) -> Answer
+    ensures { λ r. ⌜ r ≡ answerWith task query ⌝ }
 {
-    let planned = plan_for(words);
+    let planned = plan_for(task, query);
     let verdict = planned.verdict;
     if let Verdict::Refused(_) = verdict {
         return none(verdict);
@@ -26,11 +27,10 @@ pub fn plan_asked(words: &[u64]) -> Answer
 }
 
 // The plan in the given order, or the cheapest.
-fn plan_for(words: &[u64]) -> Planned
-    ensures { λ r. ⌜ r ≡ plannedFor (now (words .entry)) ⌝ }
+fn plan_for(task: u64, query: Query) -> Planned
+    ensures { λ r. ⌜ r ≡ plannedFor task query ⌝ }
 {
-    let query = asked::read_query(words);
-    if asked::word_at(words, asked::TASK) == asked::SEARCH {
+    if task == asked::SEARCH {
         let found = lent_search::search_query(query);
         let verdict = found.verdict;
         let plan = found.plan;

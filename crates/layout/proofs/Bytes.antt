@@ -1,4 +1,4 @@
--- Laws of single bytes: spaces, digits, and what goes on with a number.
+-- Laws of single bytes: spaces, digits, and the next digit of a number.
 use mathlib.Core.Path.{_≡_, refl, sym}
 use mathlib.Core.Bool.{Bool, true, false, _&&_, false≢true}
 use Prim.Native.Nat.{ℕ, _-_, _/_, _^_, _≤_, _<_}

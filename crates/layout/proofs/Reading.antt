@@ -29,7 +29,7 @@ module _ (ws buffer : List ℕ) (s : Said) where
     unfolding over
     over-all b n e = rw (e, n, append-nil, take-all (length buffer) ws room)
 
-  -- the text leaves the layout
+  -- the text is outside the layout
   pub leaves-answer : s ≡ before ws outside → none ≡ readFrom s (length buffer)
   unfolding readFrom
   leaves-answer e = rw e

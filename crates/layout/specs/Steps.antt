@@ -1,4 +1,4 @@
--- What the private functions of reading promise: how each step goes on with what is said.
+-- What the private functions of reading promise: what each step leaves to be read.
 use mathlib.Core.Path.{_≡_}
 use Prim.Native.Nat.{ℕ, _+_, _≤_, _<_}
 use mathlib.Core.Bool.{Bool, true, false}
@@ -13,7 +13,7 @@ pub record Skipped (text : List ℕ) (start r : ℕ) : Type 0 where
   pub same : said (drop start text) ≡ said (drop r text)
   pub stops : r < length text → space (getD text r 0) ≡ false
 
--- a number was read and then the rest is said from `next` on; or the text leaves the layout
+-- a number was read, and the rest of the text begins at `next`; or the text is outside the layout
 pub record Reads (text : List ℕ) (s : Said) (start : ℕ) (inside : Bool) (value next : ℕ) : Type 0 where
   pub onward : inside ≡ true → start ≤ next
   pub within : inside ≡ true → next ≤ length text

@@ -6,7 +6,7 @@ use lib.ListN.{length, take, drop}
 use lib.Dec.{leb, ltb, eqb}
 use Rattle.layout.specs.declared.Read.{Read}
 
--- the bytes that part numbers: tab, line feed, carriage return, space
+-- the bytes that separate numbers: tab, line feed, carriage return, space
 unfoldable pub space : ℕ → Bool
 space b = eqb b 9 || (eqb b 10 || (eqb b 13 || eqb b 32))
 
@@ -18,28 +18,28 @@ digit b = leb 48 b && leb b 57
 abbrev pub longer : ℕ → ℕ → ℕ
 longer v b = v * 10 + (b - 48)
 
--- whether a byte goes on with a number: a digit, not after a leading zero, and the number stays below 2^64
+-- whether a byte is the next digit of a number: a digit, not after a leading zero, and the number stays below 2^64
 unfoldable pub goesOn : ℕ → ℕ → Bool
 goesOn v b = digit b && (ltb 0 v && ltb (longer v b) (2 ^ 64))
 
--- the numbers that stand in a text, and whether all of it is in the layout; of a text that is not, the numbers before it leaves it
+-- the numbers in a text, and whether all of it is in the layout; where it is not, the numbers before the first byte outside the layout
 pub record Said : Type 0 where
   pub inside : Bool
   pub words : List ℕ
 
--- all was said
+-- the end of a text that is in the layout
 abbrev pub end : Said
 end = record { inside = true; words = [] }
 
--- here the text leaves the layout
+-- a text whose first byte is outside the layout
 abbrev pub outside : Said
 outside = record { inside = false; words = [] }
 
--- numbers before what the rest says
+-- numbers in front of those of the rest
 abbrev pub before : List ℕ → Said → Said
 before vs s = record { inside = s .inside; words = vs ++ s .words }
 
--- what the bytes that are left say, between numbers; and after digits that read as v so far
+-- what bytes say that begin between numbers; and those that follow digits which read as v
 unfoldable mutual
   pub said : List ℕ → Said
   said [] = end
@@ -58,7 +58,7 @@ readFrom s room =
 unfoldable pub over : List ℕ → List ℕ → List ℕ
 over ws buffer = take (length buffer) ws ++ drop (length ws) buffer
 
--- what is read of a text into a buffer of so many words
+-- what is read of a text into a buffer of `room` words
 abbrev pub readOf : List ℕ → ℕ → Read
 readOf text room = readFrom (said text) room
 

@@ -13,15 +13,15 @@ pub struct Read {
     pub count: usize,
 }
 
-// A number that was read and where to read on; or that the text leaves the layout there.
+// A number that was read, and the place after it; or that the text is outside the layout from there on.
 struct Number {
     inside: bool,
     value: u64,
     next: usize,
 }
 
-// Read the numbers of a text into the front of a buffer. Where the text leaves the layout, or there are more numbers than words of
-// room, the buffer holds the numbers before that place.
+// Read the numbers of a text into the front of a buffer. Where the text is outside the layout, or has more numbers than the buffer has
+// words, the buffer holds the numbers that were read before that place.
 pub fn read_words(text: &[u8], words: &mut [u64]) -> Read
     ensures { λ r. ⌜ r ≡ readOf (now (text .entry)) (length (now (words .entry))) ⌝ }
     ensures { λ r. ⌜ now (words .exit) ≡ wordsAfter (now (text .entry)) (now (words .entry)) ⌝ }
@@ -59,7 +59,7 @@ pub fn read_words(text: &[u8], words: &mut [u64]) -> Read
     }
 }
 
-// The first place from one on that is no space, or the end.
+// The first place at or after `start` that is not a space, or the end.
 fn skip(text: &[u8], start: usize) -> usize
     requires { ⌜ start ≤ length (now text) ⌝ }
     ensures { λ r. ⌜ Skipped (now (text .entry)) start r ⌝ }
@@ -90,7 +90,7 @@ fn number_at(text: &[u8], start: usize) -> Number
     digits_at(text, start + 1, digit_value(b))
 }
 
-// The number whose digits so far read as a value, and go on at a place.
+// The number whose digits before `start` read as `first`.
 fn digits_at(text: &[u8], start: usize, first: u64) -> Number
     requires { ⌜ start ≤ length (now text) ⌝ }
     ensures { λ r. ⌜ DigitsFrom (now (text .entry)) start first (r .inside) (r .value) (r .next) ⌝ }
@@ -123,7 +123,7 @@ fn digits_at(text: &[u8], start: usize, first: u64) -> Number
     }
 }
 
-// Tab, line feed, carriage return and space part numbers.
+// Numbers are separated by tabs, line feeds, carriage returns and spaces.
 fn is_space(b: u8) -> bool
     ensures { λ r. ⌜ r ≡ space b ⌝ }
 {
@@ -155,7 +155,7 @@ fn digit_value(b: u8) -> u64
     (b - b'0') as u64
 }
 
-// Whether a byte goes on with a number: after a leading zero no digit does, and none past 2^64 - 1.
+// Whether a byte is the next digit of a number: no digit may follow a leading zero, and the number must stay below 2^64.
 fn goes_on(value: u64, b: u8) -> bool
     ensures { λ r. ⌜ r ≡ goesOn value b ⌝ }
 {

@@ -12,6 +12,7 @@ use Rattle.refusal.specs.declared.Refusal.{Refusal}
 use Rattle.refusal.specs.declared.Verdict.{Verdict}
 use Rattle.refusal.specs.declared.Verdict.the-variants.{Fine, Refused}
 use Rattle.refusal.proofs.Fine.{or-fine}
+use Rattle.query.specs.declared.Query.{Query}
 use Rattle.plan.specs.declared.Plan.{Plan}
 use Rattle.plan.specs.Plan.{emptyPlan}
 use Rattle.pieces.specs.Written.{largest, Written}
@@ -25,27 +26,43 @@ use Rattle.plan_text.proofs.Answers.{text-fits}
 use Rattle.visits.specs.Visits.{tablesOf}
 use Rattle.eval.specs.Evaluation.{evaluationFault}
 use Rattle.asked.specs.declared.Parts.{Parts}
-use Rattle.asked.specs.Parts.{partsOf, itemsOf, areKinds, areBytes, insideOf}
-use Rattle.asked.specs.Asked.{bytesAfter}
+use Rattle.asked.specs.Parts.{partsOf, itemsOf, areKinds, areBytes, insideWith}
+use Rattle.asked.specs.Asked.{queryWith, bytesAfter}
 use Rattle.asked.proofs.Found.{both-true}
 use Rattle.asked.proofs.Filled.{bytes-all}
 use Rattle.asked_plan.specs.declared.Answer.{Answer}
-use Rattle.asked_plan.specs.Answer.{answerOf}
+use Rattle.asked_plan.specs.Answer.{answerWith, answerOf}
 use Rattle.opening.specs.declared.Opening.{Opening}
-use Rattle.opening.specs.Question.{nameBytes, namesOf, isQuestion, endsOf, tablesIn}
+use Rattle.opening.specs.Question.{nameBytes, namesOf, isQuestion, givenEnds, endsOf, tablesIn}
 use Rattle.opening.specs.Opening.{costBytes, Said, only, outside, refusal, showingFault, openedWith, opened, openingOf, Line, Opens}
 
-pub no-question : (ws : List ℕ) → insideOf ws ≡ false → false ≡ isQuestion ws
-unfolding isQuestion
-no-question ws e = rw e
+-- by the parts that were found
+module _ (ws : List ℕ) (q : Parts) (found : q ≡ partsOf ws) where
+  pub no-question : insideWith ws q ≡ false → false ≡ isQuestion ws
+  unfolding isQuestion
+  no-question e = rw (← found, e)
 
-pub question-is : (ws names : List ℕ) → insideOf ws ≡ true → names ≡ namesOf ws → leb (length names) nameBytes ≡ isQuestion ws
-unfolding isQuestion
-question-is ws names e f = rw (e, ← f)
+  pub question-is : (names : List ℕ) → insideWith ws q ≡ true → names ≡ itemsOf ws (q .names) → leb (length names) nameBytes ≡ isQuestion ws
+  unfolding isQuestion
+  question-is names e f = rw (← found, e, ← f)
+
+  -- what is planned for the query that is read by them
+  pub answer-asked : (t : ℕ) (x : Query) (a : Answer) → t ≡ getD ws 0 0 → x ≡ queryWith ws q → a ≡ answerWith t x → a ≡ answerOf ws
+  answer-asked t x a e f g = rw (← found, ← f, ← e) g
+
+  -- their items are the question's names, ends and tables
+  pub names-found : {names : List ℕ} → names ≡ itemsOf ws (q .names) → names ≡ namesOf ws
+  names-found e = rw (← found) e
+
+  pub ends-found : {ends : List ℕ} → ends ≡ itemsOf ws (q .ends) → ends ≡ givenEnds ws
+  ends-found e = rw (← found) e
+
+  pub tables-are : (a b c : List ℕ) → a ≡ itemsOf ws (q .aevt) → b ≡ itemsOf ws (q .avet) → c ≡ itemsOf ws (q .eavt) → tablesOf a b c ≡ tablesIn ws
+  tables-are a b c e f g = rw (e, f, g, found)
 
 -- a question's names are bytes, and there is room for them
 pub question-names : (ws : List ℕ) → isQuestion ws ≡ true → (areBytes (namesOf ws) ≡ true) × (length (namesOf ws) ≤ nameBytes)
-unfolding isQuestion insideOf
+unfolding isQuestion insideWith
 question-names ws e =
     let all = both-true _ _ e in
     let past = both-true (partsOf ws .eavt .inside) _ (all .0) in
@@ -85,11 +102,6 @@ module _ (ws : List ℕ) (room : ℕ) where
     pub said-planned : a .verdict ≡ Fine → openedWith ws (a .plan) (a .cost) (namesOf ws) (endsOf ws (a .plan .«slot_count»)) room ≡ openingOf ws room
     unfolding openingOf opened
     said-planned f = rw (question, ← e, f)
-
--- the items of three parts are the tables of a question
-pub tables-are : (ws : List ℕ) (q : Parts) (a b c : List ℕ) → q ≡ partsOf ws → a ≡ itemsOf ws (q .aevt) → b ≡ itemsOf ws (q .avet) → c ≡ itemsOf ws (q .eavt)
-    → tablesOf a b c ≡ tablesIn ws
-tables-are ws q a b c e f g h = rw (f, g, h, e)
 
 module _ (ws : List ℕ) (p : Plan) (names ends : List ℕ) (room : ℕ) where
   -- the text's refusal, or that of evaluation
@@ -149,7 +161,7 @@ module _ (p : Plan) (cost : ℕ) (names ends l : List ℕ) (word : cost < 2 ^ 64
 pub none-written : (l : List ℕ) → length l ≤ largest → Line [] l 0 l
 none-written l h = record { is-written = written-none (omega arith) h; fits = λ k. omega arith }
 
--- the line of numbers that are no question
+-- the line of numbers that are not a question
 pub outside-written : (l l′ : List ℕ) (n : ℕ) → Written (outside .text) 0 l n l′ → Line (outside .text) l n l′
 outside-written l l′ n w = record { is-written = w; fits = λ h. omega (arith, w .position-is) }
 

@@ -38,7 +38,7 @@ pub record Said : Type 0 where
 abbrev pub only : List ℕ → Said
 only text = record { rows = false; plan = emptyPlan; text = text }
 
--- the numbers are no question
+-- the numbers are not a question
 abbrev pub outside : Said
 outside = only (ascii "outside the layout\n")
 
@@ -63,7 +63,7 @@ openedWith ws p cost names ends room =
 unfoldable pub opened : List ℕ → Answer → ℕ → Said
 opened ws a room = unless (a .verdict) refusal (openedWith ws (a .plan) (a .cost) (namesOf ws) (endsOf ws (a .plan .«slot_count»)) room)
 
--- what is said of numbers, for a buffer of so many bytes
+-- what is said of numbers, for a buffer of `room` bytes
 unfoldable pub openingOf : List ℕ → ℕ → Said
 openingOf ws room = cond (isQuestion ws) (opened ws (answerOf ws) room) outside
 

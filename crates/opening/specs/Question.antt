@@ -27,7 +27,7 @@ givenEnds ws = itemsOf ws (partsOf ws .ends)
 unfoldable pub endsWith : List ℕ → ℕ → List ℕ
 endsWith given constants = given ++ replicate constants (getD given (length given - 1) 0)
 
--- the ends of names of so many slots: those past the variables are constants
+-- the ends of the names of a plan's slots: those past the variables are constants
 abbrev pub endsOf : List ℕ → ℕ → List ℕ
 endsOf ws slots = endsWith (givenEnds ws) (slots - getD ws 1 0)
 

@@ -1,6 +1,8 @@
-// What the program says of a question before any rows (docs/LAYOUT.md, "What it writes"): the plan text and the cost; or the first
-// refusal, or that the numbers are no question, and then no rows follow.
+// What the program says of a question before any rows (docs/LAYOUT.md, "What it writes"): the plan text and the cost; or, with no rows
+// after it, the first refusal or that the numbers are not a question. `open` finds the parts of the question, and the functions that it
+// calls are given them.
 use asked::MAX_ENDS;
+use asked::Parts;
 use plan::Plan;
 use refusal::Verdict;
 ghost use mathlib.Core.Path.{_≡_};
@@ -14,7 +16,8 @@ ghost use Rattle.reply.specs.Lines.{refusalLine, costLine};
 ghost use Rattle.plan_text.specs.Text.{textOf};
 ghost use Rattle.plan_text.specs.Answer.{textFault};
 ghost use Rattle.eval.specs.Evaluation.{evaluationFault};
-ghost use Rattle.opening.specs.Question.{namesOf, isQuestion, givenEnds, endsOf, tablesIn};
+ghost use Rattle.asked.specs.Parts.{partsOf};
+ghost use Rattle.opening.specs.Question.{namesOf, isQuestion, endsOf, tablesIn};
 ghost use Rattle.opening.specs.Opening.{costBytes, refusalText, outside, showingFault, openedWith, openingOf, Line, Opens};
 ghost use Rattle.opening.specs.Opening.{refusal as Opening·refusal};
 
@@ -35,68 +38,55 @@ const COST_BYTES: usize = 27;
 pub fn open(words: &[u64], out: &mut [u8]) -> Opening
     ensures { λ r. ⌜ Opens (openingOf (now (words .entry)) (length (now (out .entry)))) (now (out .entry)) r (now (out .exit)) ⌝ }
 {
-    if !is_question(words) {
+    let parts = asked::find_parts(words);
+    if !is_question(words, parts) {
         return say_outside(out);
     }
-    let answer = asked_plan::plan_asked(words);
+    let query = asked::read_query(words, parts);
+    let answer = asked_plan::plan_asked(asked::word_at(words, asked::TASK), query);
     let verdict = answer.verdict;
     if let Verdict::Refused(_) = verdict {
         return say_refusal(verdict, out);
     }
     let plan = answer.plan;
-    open_planned(words, plan, answer.cost, out)
+    open_planned(words, parts, plan, answer.cost, out)
 }
 
 // Whether the numbers are in the layout, and there is room for the bytes of names.
-fn is_question(words: &[u64]) -> bool
+fn is_question(words: &[u64], parts: Parts) -> bool
+    requires { ⌜ parts ≡ partsOf (now words) ⌝ }
     ensures { λ r. ⌜ r ≡ isQuestion (now (words .entry)) ⌝ }
 {
-    if !asked::is_inside(words) {
+    if !asked::is_inside(words, parts) {
         return false;
     }
-    let names = names_in(words);
+    let names = asked::items(words, parts.names);
     names.len() <= NAME_BYTES
-}
-
-fn names_in(words: &[u64]) -> &[u64]
-    ensures { λ r. ⌜ now r ≡ namesOf (now (words .entry)) ⌝ }
-{
-    let parts = asked::find_parts(words);
-    let part = parts.names;
-    asked::items(words, part.at, part.length)
-}
-
-fn ends_in(words: &[u64]) -> &[u64]
-    ensures { λ r. ⌜ now r ≡ givenEnds (now (words .entry)) ⌝ }
-{
-    let parts = asked::find_parts(words);
-    let part = parts.ends;
-    asked::items(words, part.at, part.length)
 }
 
 // One line, and no rows.
 fn say_outside(out: &mut [u8]) -> Opening
     ensures { λ r. ⌜ Opens outside (now (out .entry)) r (now (out .exit)) ⌝ }
 {
-    let length = pieces::write(b"outside the layout\n", 0, out);
-    only(length)
+    let size = pieces::write(b"outside the layout\n", 0, out);
+    only(size)
 }
 
 fn say_refusal(verdict: Verdict, out: &mut [u8]) -> Opening
     ensures { λ r. ⌜ Opens (Opening·refusal verdict) (now (out .entry)) r (now (out .exit)) ⌝ }
 {
-    let length = write_verdict(verdict, out);
-    only(length)
+    let size = write_verdict(verdict, out);
+    only(size)
 }
 
-fn only(length: usize) -> Opening
-    ensures { λ r. ⌜ r ≡ record { rows = false; plan = emptyPlan; length = length } ⌝ }
+fn only(size: usize) -> Opening
+    ensures { λ r. ⌜ r ≡ record { rows = false; plan = emptyPlan; length = size } ⌝ }
 {
     let plan = Plan::empty();
     Opening {
         rows: false,
         plan,
-        length,
+        length: size,
     }
 }
 
@@ -115,28 +105,38 @@ fn write_refusal(number: u8, place: usize, out: &mut [u8]) -> usize
     reply::write_refusal(number, place, 0, out)
 }
 
-// Of a question that was planned: its names are read.
-fn open_planned(words: &[u64], plan: Plan, cost: u64, out: &mut [u8]) -> Opening
+// What is said of a question that was planned. First its names are read.
+fn open_planned(words: &[u64], parts: Parts, plan: Plan, cost: u64, out: &mut [u8]) -> Opening
+    requires { ⌜ parts ≡ partsOf (now words) ⌝ }
     requires { ⌜ isQuestion (now words) ≡ true ⌝ }
     ensures { λ r. ⌜ Opens (openedWith (now (words .entry)) plan cost (namesOf (now (words .entry))) (endsOf (now (words .entry)) (plan .«slot_count»)) (length (now (out .entry)))) (now (out .entry)) r (now (out .exit)) ⌝ }
 {
     let mut names = [0u8; NAME_BYTES];
-    let given = names_in(words);
+    let given = asked::items(words, parts.names);
     let count = given.len();
     asked::read_bytes(given, &mut names);
-    open_named(words, plan, cost, &names[..count], out)
+    open_named(words, parts, plan, cost, &names[..count], out)
 }
 
-// And then their ends. The buffer has room for one more than a plan has slots: more are too many either way.
-fn open_named(words: &[u64], plan: Plan, cost: u64, names: &[u8], out: &mut [u8]) -> Opening
+// Then the ends of the names. The buffer has room for one end more than a plan can have slots: where it is full, there are too many, and
+// the names are refused.
+fn open_named(
+    words: &[u64],
+    parts: Parts,
+    plan: Plan,
+    cost: u64,
+    names: &[u8],
+    out: &mut [u8],
+) -> Opening
+    requires { ⌜ parts ≡ partsOf (now words) ⌝ }
     ensures { λ r. ⌜ Opens (openedWith (now (words .entry)) plan cost (now (names .entry)) (endsOf (now (words .entry)) (plan .«slot_count»)) (length (now (out .entry)))) (now (out .entry)) r (now (out .exit)) ⌝ }
 {
     let mut ends = [0usize; MAX_ENDS];
-    let given = ends_in(words);
+    let given = asked::items(words, parts.ends);
     asked::read_ends(given, &mut ends);
     let constants = constants_of(plan.slot_count, asked::word_at(words, asked::VARIABLES));
     let count = asked::count_ends(given.len(), constants, MAX_ENDS);
-    open_with(words, plan, cost, names, &ends[..count], out)
+    open_with(words, parts, plan, cost, names, &ends[..count], out)
 }
 
 // The slots past the variables are constants.
@@ -150,18 +150,20 @@ fn constants_of(slots: usize, variables: u64) -> usize
     (slots - variables) as usize
 }
 
-// With names and ends: a refusal, or the plan text and the cost.
+// Then a refusal is written, or the plan text and the cost.
 fn open_with(
     words: &[u64],
+    parts: Parts,
     plan: Plan,
     cost: u64,
     names: &[u8],
     ends: &[usize],
     out: &mut [u8],
 ) -> Opening
+    requires { ⌜ parts ≡ partsOf (now words) ⌝ }
     ensures { λ r. ⌜ Opens (openedWith (now (words .entry)) plan cost (now (names .entry)) (now (ends .entry)) (length (now (out .entry)))) (now (out .entry)) r (now (out .exit)) ⌝ }
 {
-    let verdict = showing_fault(words, plan, names, ends, out);
+    let verdict = showing_fault(words, parts, plan, names, ends, out);
     if let Verdict::Refused(_) = verdict {
         return say_refusal(verdict, out);
     }
@@ -174,17 +176,25 @@ fn open_with(
 }
 
 // The text's refusal comes before that of evaluation.
-fn showing_fault(words: &[u64], plan: Plan, names: &[u8], ends: &[usize], out: &[u8]) -> Verdict
+fn showing_fault(
+    words: &[u64],
+    parts: Parts,
+    plan: Plan,
+    names: &[u8],
+    ends: &[usize],
+    out: &[u8],
+) -> Verdict
+    requires { ⌜ parts ≡ partsOf (now words) ⌝ }
     ensures { λ r. ⌜ r ≡ showingFault (now (words .entry)) plan (now (names .entry)) (now (ends .entry)) (length (now (out .entry))) ⌝ }
 {
     let verdict = text_fault(plan, names, ends, out);
     if let Verdict::Refused(_) = verdict {
         return verdict;
     }
-    evaluation_fault(words, plan)
+    evaluation_fault(words, parts, plan)
 }
 
-// The text has what is left of the buffer beside the cost line.
+// The refusal of the plan text. The text may take the whole buffer but for the longest cost line.
 fn text_fault(plan: Plan, names: &[u8], ends: &[usize], out: &[u8]) -> Verdict
     ensures { λ r. ⌜ r ≡ textFault plan (now (names .entry)) (now (ends .entry)) (length (now (out .entry)) - costBytes) ⌝ }
 {
@@ -193,27 +203,24 @@ fn text_fault(plan: Plan, names: &[u8], ends: &[usize], out: &[u8]) -> Verdict
     measured.verdict
 }
 
-fn beside_cost(length: usize) -> usize
-    ensures { λ r. ⌜ r ≡ length - costBytes ⌝ }
+fn beside_cost(size: usize) -> usize
+    ensures { λ r. ⌜ r ≡ size - costBytes ⌝ }
 {
-    if length < COST_BYTES {
+    if size < COST_BYTES {
         return 0;
     }
-    length - COST_BYTES
+    size - COST_BYTES
 }
 
-fn evaluation_fault(words: &[u64], plan: Plan) -> Verdict
+fn evaluation_fault(words: &[u64], parts: Parts, plan: Plan) -> Verdict
+    requires { ⌜ parts ≡ partsOf (now words) ⌝ }
     ensures { λ r. ⌜ r ≡ evaluationFault plan (tablesIn (now (words .entry))) ⌝ }
 {
-    let parts = asked::find_parts(words);
-    let aevt = parts.aevt;
-    let avet = parts.avet;
-    let eavt = parts.eavt;
     eval::check(
         plan,
-        asked::items(words, aevt.at, aevt.length),
-        asked::items(words, avet.at, avet.length),
-        asked::items(words, eavt.at, eavt.length),
+        asked::items(words, parts.aevt),
+        asked::items(words, parts.avet),
+        asked::items(words, parts.eavt),
     )
 }
 

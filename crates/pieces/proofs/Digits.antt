@@ -79,7 +79,7 @@ module _ (ds : List ℕ) (k : ℕ) (m : length ds ≡ suc k) where
   reads-split : readOn 0 (take k ds) * 10 + (getD ds k 0 - digit 0) ≡ readOn 0 ds
   reads-split = sym (read-append (take k ds) (getD ds k 0 ∷ []) 0) ∙ sym (ap (readOn 0) split)
 
--- so many digits that are the number's are those that `decimal` gives
+-- k + 1 digits that are the number's are those that `decimal` gives
 digits-so-many : (k n : ℕ) (ds : List ℕ) → length ds ≡ suc k → DigitsOf n ds → ds ≡ decimal n
 digits-so-many zero n ds m v =
     let last = v .are-digits 0 (omega arith) in

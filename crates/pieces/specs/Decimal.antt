@@ -10,7 +10,7 @@ use lib.Dec.{ltb}
 abbrev pub digit : ℕ → ℕ
 digit d = 48 + d
 
--- a number below ten is its digit; another the digits of its tens and then its last; at most so many digits
+-- a number below ten is one digit; a larger one is the digits of its tens and then its last digit. The first argument is the most digits given
 unfoldable pub digitsWithin : ℕ → ℕ → List ℕ
 digitsWithin zero n = []
 digitsWithin (suc k) n = cond (ltb n 10) (digit n ∷ []) (digitsWithin k (n / 10) ++ (digit (n % 10) ∷ []))

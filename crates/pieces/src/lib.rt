@@ -38,7 +38,7 @@ fn write_digit(digit: u64, at: usize, out: &mut [u8]) -> usize
     write(&piece, at, out)
 }
 
-// The position that many bytes on.
+// The position `count` bytes after another.
 fn later(at: usize, count: usize) -> usize
     ensures { λ r. ⌜ r ≡ after at count ⌝ }
 {
@@ -49,14 +49,14 @@ fn later(at: usize, count: usize) -> usize
     }
 }
 
-// How many of so many bytes lie within a buffer of some length.
-fn fitting(count: usize, at: usize, length: usize) -> usize
-    ensures { λ r. ⌜ r ≡ min count (length - at) ⌝ }
+// How many of `count` bytes, written from `at` on, lie within a buffer of `size` bytes.
+fn fitting(count: usize, at: usize, size: usize) -> usize
+    ensures { λ r. ⌜ r ≡ min count (size - at) ⌝ }
 {
-    if length <= at {
+    if size <= at {
         return 0;
     }
-    let room = length - at;
+    let room = size - at;
     if room < count { room } else { count }
 }
 

@@ -41,17 +41,17 @@ pub cost-short : (cost : ℕ) → cost < 2 ^ 64 → length (costLine cost) ≤ 7
 unfolding costLine
 cost-short cost h = let a = word-short cost h in simp length-append (omega arith)
 
--- the text of a word of a row: a byte parts it from what follows
+-- the text of a word of a row: one byte separates it from what follows
 pub word-text-short : (word left : ℕ) → word < 2 ^ 64 → length (wordText word left) ≤ wordDigits + 1
 unfolding wordText
 word-text-short word left h =
     let a = word-short word h in
-    let b : length (cond (leb left 1) (ascii "\n") (ascii " ")) ≡ 1 = parted (leb left 1) in
+    let b : length (cond (leb left 1) (ascii "\n") (ascii " ")) ≡ 1 = one-byte (leb left 1) in
     simp length-append (omega arith)
   where
-    parted : (t : Bool) → length (cond t (ascii "\n") (ascii " ")) ≡ 1
-    parted true = refl
-    parted false = refl
+    one-byte : (t : Bool) → length (cond t (ascii "\n") (ascii " ")) ≡ 1
+    one-byte true = refl
+    one-byte false = refl
 
 -- the lines of the first words of some
 pub rows-short : (n width left : ℕ) (words : List ℕ) → ((i : ℕ) → getD words i 0 < 2 ^ 64) → length (rowLines width left (take n words)) ≤ (wordDigits + 1) * length words

@@ -14,7 +14,7 @@ refusalLine number place = ascii "refused " ++ decimal number ++ ascii " at " ++
 unfoldable pub costLine : ℕ → List ℕ
 costLine cost = ascii "\ncost " ++ decimal cost ++ ascii "\n"
 
--- a word of a row of which so many words are left: the last ends the line, a space parts another from the next
+-- a word of a row, and how many words of the row are left with it: a line feed follows the last, a space every other
 unfoldable pub wordText : ℕ → ℕ → List ℕ
 wordText word left = decimal word ++ cond (leb left 1) (ascii "\n") (ascii " ")
 
@@ -22,7 +22,7 @@ wordText word left = decimal word ++ cond (leb left 1) (ascii "\n") (ascii " ")
 unfoldable pub leftAfter : ℕ → ℕ → ℕ
 leftAfter left width = cond (leb left 1) width (left - 1)
 
--- rows of so many words, from one on of which so many words are left
+-- rows of `width` words, a line each; of the first row `left` words are left
 unfoldable pub rowLines : ℕ → ℕ → List ℕ → List ℕ
 rowLines width left [] = []
 rowLines width left (w ∷ ws) = wordText w left ++ rowLines width (leftAfter left width) ws

@@ -26,7 +26,7 @@ pub fn write_cost(cost: u64, start: usize, out: &mut [u8]) -> usize
     write(b"\n", at, out)
 }
 
-// Rows of so many words, a line for each.
+// Rows of `width` words, a line for each.
 pub fn write_rows(words: &[u64], width: usize, start: usize, out: &mut [u8]) -> usize
     ensures { λ r. ⌜ Written (rowLines width width (now (words .entry))) start (now (out .entry)) r (now (out .exit)) ⌝ }
 {
@@ -41,7 +41,7 @@ pub fn write_rows(words: &[u64], width: usize, start: usize, out: &mut [u8]) -> 
     at
 }
 
-// A word, and what parts it from the next: the row's last ends the line.
+// A word and a space; or, for the last word of a row, a line feed. `left` counts the words of the row from this one on.
 fn write_word(word: u64, left: usize, start: usize, out: &mut [u8]) -> usize
     ensures { λ r. ⌜ Written (wordText word left) start (now (out .entry)) r (now (out .exit)) ⌝ }
 {

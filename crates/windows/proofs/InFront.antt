@@ -46,21 +46,21 @@ module _ (p : Plan) (ts : Tables) (selects : length (p .select) ≡ maxSelects) 
         wide-map width (λ w. selected (selectsOf p) (slotsAt ts (scansOf p) (initialSlots p) w)) (λ w. length-map (selectsOf p) _ ∙ selects-long) (visits ts (scansOf p) (initialSlots p))
 
 -- the words of as many rows as are shown lie within the buffer
-pub room-within : (left width length : ℕ) → min left (length / width) * width ≤ length
-room-within left width length =
-    let a : min left (length / width) * width ≤ length / width * width = mul-le-mul-right width (min-le-right left (length / width)) in
-    omega (arith, div-mul-le-self length width)
+pub room-within : (left width size : ℕ) → min left (size / width) * width ≤ size
+room-within left width size =
+    let a : min left (size / width) * width ≤ size / width * width = mul-le-mul-right width (min-le-right left (size / width)) in
+    omega (arith, div-mul-le-self size width)
 
--- so many words: of no rows, of all that are to be shown, or of as many as fit
-module _ (left width length : ℕ) where
-  pub room-none : width ≡ 0 → 0 ≡ min left (length / width) * width
+-- the words of a window: of no rows, of all that are to be shown, or of as many as fit
+module _ (left width size : ℕ) where
+  pub room-none : width ≡ 0 → 0 ≡ min left (size / width) * width
   room-none e = rw e (omega arith)
 
-  pub room-least : left < length / width → left * width ≡ min left (length / width) * width
-  room-least h = let e : left ≡ min left (length / width) = omega arith in ap (λ (k : ℕ). k * width) e
+  pub room-least : left < size / width → left * width ≡ min left (size / width) * width
+  room-least h = let e : left ≡ min left (size / width) = omega arith in ap (λ (k : ℕ). k * width) e
 
-  pub room-all : length / width ≤ left → length / width * width ≡ min left (length / width) * width
-  room-all h = let e : length / width ≡ min left (length / width) = omega arith in ap (λ (k : ℕ). k * width) e
+  pub room-all : size / width ≤ left → size / width * width ≡ min left (size / width) * width
+  room-all h = let e : size / width ≡ min left (size / width) = omega arith in ap (λ (k : ℕ). k * width) e
 
 -- another follows the first k of a list where there are more than k
 shorter : {A : Type 0} (k : ℕ) (l : List A) → ltb k (length l) ≡ ltb (length (take k l)) (length l)

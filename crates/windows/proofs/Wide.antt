@@ -13,7 +13,7 @@ use Rattle.tables.proofs.Table.{flat-append}
 use Rattle.reply.specs.Lines.{wordText, leftAfter, rowLines}
 use Rattle.windows.specs.Windows.{linesOf}
 
--- each row has so many words
+-- each row has w words
 pub data Wide : ℕ → List (List ℕ) → Type 0 where
   none : {w : ℕ} → Wide w []
   more : {w : ℕ} {r : List ℕ} {rs : List (List ℕ)} → length r ≡ w → Wide w rs → Wide w (r ∷ rs)

@@ -21,7 +21,7 @@ use Rattle.eval.specs.Evaluation.{evaluationFault}
 use Rattle.windows.specs.declared.Step.{Step}
 use Rattle.windows.specs.declared.Window.{Window}
 
--- the lines of rows of so many words
+-- the lines of rows of `width` words
 unfoldable pub linesOf : ℕ → List (List ℕ) → List ℕ
 linesOf width rows = rowLines width width (flat rows)
 
@@ -34,7 +34,7 @@ unfoldable pub rowsText : Plan → Tables → ℕ → ℕ → List ℕ
 rowsText p ts from left =
     linesOf (p .«select_count») (take left (drop from (rowList p ts))) ++ lastLine (ltb left (length (drop from (rowList p ts))))
 
--- a window shows as many of these rows as a buffer of so many words has room for
+-- a window shows as many of these rows as a buffer of `room` words holds
 unfoldable pub shownOf : Plan → Tables → ℕ → ℕ → ℕ → List (List ℕ)
 shownOf p ts from left room = take (min left (room / p .«select_count»)) (drop from (rowList p ts))
 
@@ -119,7 +119,8 @@ pub record Fills (p : Plan) (ts : Tables) (from left : ℕ) (rows : List ℕ) (r
   pub words-fit : r .count * p .«select_count» ≤ length rows
   pub in-front : evaluationFault p ts ≡ Fine → Front p ts from left rows r rows′
 
--- a window is shown: the answer, and the two buffers after it. Its text lies within a buffer that has room for so many words
+-- a window is shown: the answer, and the two buffers after it. Its text fits where the buffer for bytes has room for as many words, each as long
+-- as can be, as the buffer for rows has, and for the last line
 pub record Shows (p : Plan) (ts : Tables) (from left : ℕ) (rows out : List ℕ) (r : Window) (rows′ out′ : List ℕ) : Type 0 where
   pub answer-is : r ≡ windowOf p ts from left (length rows)
   pub rows-are : rows′ ≡ rowsAfter p ts from left rows

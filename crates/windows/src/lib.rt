@@ -80,14 +80,14 @@ fn fill<'a>(
     eval::evaluate(plan, aevt, avet, eavt, from, &mut rows[..room])
 }
 
-// The words of as many whole rows as fit, and of at most so many.
-fn room_for(left: u64, width: usize, length: usize) -> usize
-    ensures { λ r. ⌜ r ≡ min left (length / width) * width ⌝ }
+// How many words the rows of a window take: as many whole rows as fit in `size` words, and at most `left`.
+fn room_for(left: u64, width: usize, size: usize) -> usize
+    ensures { λ r. ⌜ r ≡ min left (size / width) * width ⌝ }
 {
     if width == 0 {
         return 0;
     }
-    let fitting = length / width;
+    let fitting = size / width;
     if left < fitting as u64 {
         return left as usize * width;
     }

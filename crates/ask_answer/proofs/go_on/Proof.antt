@@ -6,8 +6,8 @@ use Rattle.ask_answer.proofs.go_on.Tie as tie
 
 returns : tie.Need-returns
 returns c =
-    let found = c .before .before .before .before .before .before .before .before .before .before .before .before .before .before in
-    let tables = c .before .before .before .before .before .before .before in
+    let tables = c .before .before .before .before .before .before .before .before in
+    let found = tables .before .before .before in
     goes-on (found .before .before .before .before .args .part) (found .find-parts .ensures) (tables .before .before .items .ensures) (tables .before .items2 .ensures) (tables .items3 .ensures) (c .before .before .before .before .show .ensures)
 
 pub go-on-spec : {M : Type 1} → statement M

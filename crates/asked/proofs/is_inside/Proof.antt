@@ -7,45 +7,44 @@ use Rattle.asked.proofs.is_inside.Statement.{statement}
 use Rattle.asked.proofs.is_inside.Tie as tie
 
 parts : tie.Need-returns
-parts c = outside-parts _ _ (c .before .before .before .find-parts .ensures) (not-true _ (c .if1 .taken))
+parts c = outside-parts _ _ (not-true _ (c .if1 .taken))
 
 more : tie.Need-returns-2
 more c =
     let e = c .before .before in
-    outside-more _ _ (e .before .before .before .find-parts .ensures) (not-false _ (e .if1 .left)) (c .if2 .taken)
+    outside-more _ _ (not-false _ (e .if1 .left)) (c .if2 .taken)
 
 task : tie.Need-returns-3
 task c =
     let d = c .before .before in
     let e = d .before .before in
-    outside-task _ _ (e .before .before .before .find-parts .ensures) (not-false _ (e .if1 .left)) (d .if2 .left) (rw (c .before .word-at .ensures) at (c .if3 .taken))
+    outside-task _ _ (not-false _ (e .if1 .left)) (d .if2 .left) (rw (c .before .word-at .ensures) at (c .if3 .taken))
 
 kinds : tie.Need-returns-4
 kinds c =
     let k = c .before in
-    let b = k .before .before .before in
+    let b = k .before .before in
     let d = b .before .before in
     let e = d .before .before in
-    outside-kinds _ _ (e .before .before .before .find-parts .ensures) (not-false _ (e .if1 .left)) (d .if2 .left) (rw (b .before .word-at .ensures) at (b .if3 .left))
+    outside-kinds _ _ (not-false _ (e .if1 .left)) (d .if2 .left) (rw (b .before .word-at .ensures) at (b .if3 .left))
     (rw (k .before .items .ensures) at (sym (k .are-kinds .ensures) ∙ not-true _ (c .if4 .taken)))
 
 bytes : tie.Need-returns-5
 bytes c =
-    let g = c .before .before .before in
+    let g = c .before .before in
     let k = g .before in
-    let b = k .before .before .before in
+    let b = k .before .before in
     let d = b .before .before in
     let e = d .before .before in
     c .are-bytes .ensures
     ∙ rw (c .before .items2 .ensures)
-    (inside-bytes _ _ (e .before .before .before .find-parts .ensures) (not-false _ (e .if1 .left)) (d .if2 .left) (rw (b .before .word-at .ensures) at (b .if3 .left))
+    (inside-bytes _ _ (not-false _ (e .if1 .left)) (d .if2 .left) (rw (b .before .word-at .ensures) at (b .if3 .left))
     (rw (k .before .items .ensures) at (sym (k .are-kinds .ensures) ∙ not-false _ (g .if4 .left))))
 
 pub is-inside-spec : {M : Type 1} → statement M
 is-inside-spec =
     tie.close
     (tie.spec
-    (λ c κs. search needs)
     parts
     more
     (λ c κs. search needs)

@@ -12,9 +12,9 @@ plan-asked-spec =
     (λ c κs. search needs)
     (λ c. search needs)
     (λ c κs. search needs)
-    (λ c. c .none .ensures ∙ answer-refused _ _ (c .before .before .before .plan-for .ensures) (c .before .enum-told .given .1))
+    (λ c. c .none .ensures ∙ answer-refused _ _ _ (c .before .before .before .plan-for .ensures) (c .before .enum-told .given .1))
     (λ c. search needs)
     (λ c κs. search needs)
     (λ c.
     let t = c .before .before in
-    c .with-cost .ensures ∙ answer-fine _ _ (t .before .before .plan-for .ensures) (t .enum-told2 .given .1)))
+    c .with-cost .ensures ∙ answer-fine _ _ _ (t .before .before .plan-for .ensures) (t .enum-told2 .given .1)))

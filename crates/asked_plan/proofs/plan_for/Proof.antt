@@ -9,13 +9,11 @@ plan-for-spec =
     tie.close
     (tie.spec
     (λ c κs. search needs)
-    (λ c κs. search needs)
-    (λ c κs. search needs)
     (λ c.
     let s = c .before in
     let t = s .before in
-    planned-search _ _ _ (t .before .word-at .ensures) (t .before .before .read-query .ensures) _ (t .if1 .taken) (s .search-query .ensures))
+    planned-search _ _ _ (t .if1 .taken) (s .search-query .ensures))
     (λ c κs. search needs)
     (λ c.
     let t = c .before in
-    planned-given _ _ _ (t .before .word-at .ensures) (t .before .before .read-query .ensures) _ (t .if1 .left) (c .plan-query .ensures)))
+    planned-given _ _ _ (t .if1 .left) (c .plan-query .ensures)))

@@ -8,13 +8,12 @@ use Rattle.opening.proofs.evaluation_fault.Tie as tie
 
 returns : tie.Need-returns
 returns c =
-    c .check .ensures ∙ ap (evaluationFault _) (tables-are _ _ _ _ _ (c .before .before .before .before .before .before .before .find-parts .ensures) (c .before .before .before .items .ensures) (c .before .before .items2 .ensures) (c .before .items3 .ensures))
+    c .check .ensures ∙ ap (evaluationFault _) (tables-are _ _ (c .before .before .before .before .before .pre) _ _ _ (c .before .before .before .items .ensures) (c .before .before .items2 .ensures) (c .before .items3 .ensures))
 
 pub evaluation-fault-spec : {M : Type 1} → statement M
 evaluation-fault-spec =
     tie.close
     (tie.spec
-    (λ c κs. search needs)
     (λ c κs. search needs)
     (λ c κs. search needs)
     (λ c κs. search needs)

@@ -3,7 +3,7 @@ use mathlib.Core.Path.{sym}
 use native.Mathlib.Omega.{arith}
 use lib.Seq.{length-take-le}
 use Rattle.asked.specs.Asked.{endsCount}
-use Rattle.opening.proofs.Said.{opens-as}
+use Rattle.opening.proofs.Said.{opens-as, ends-found}
 use Rattle.opening.proofs.Ends.{ends-as-said}
 use borrow.Author.Needs.{needs}
 use Rattle.opening.proofs.open_named.Statement.{statement}
@@ -18,8 +18,10 @@ unfolding endsCount
 slice-aggregate-open-with c = sym (length-take-le _ _ (omega (arith, c .before .count-ends .ensures)))
 
 returns : tie.Need-returns
-returns c = let a = c .before .before .before .before .before .before .before .before .before .before .before .before .before .before .before .args in
-    opens-as (ends-as-said (a .words .now) (a .plan) (a .cost) (a .names .now) _ _ _ _ _ _ (c .before .before .before .before .before .before .before .before .before .before .before .ends-in .ensures) (c .before .before .before .before .before .before .before .word-at .ensures) (c .before .before .before .before .before .before .constants-of .ensures) (c .before .before .before .before .before .count-ends .ensures) (c .before .before .before .before .before .before .before .before .before .read-ends .ensures)) (c .before .before .open-with .ensures)
+returns c =
+    let start = c .before .before .before .before .before .before .before .before .before .before .before .before .before .before .before in
+    let a = start .args in
+    opens-as (ends-as-said (a .words .now) (a .plan) (a .cost) (a .names .now) _ _ _ _ _ _ (ends-found _ _ (start .pre) (c .before .before .before .before .before .before .before .before .before .before .before .items .ensures)) (c .before .before .before .before .before .before .before .word-at .ensures) (c .before .before .before .before .before .before .constants-of .ensures) (c .before .before .before .before .before .count-ends .ensures) (c .before .before .before .before .before .before .before .before .before .read-ends .ensures)) (c .before .before .open-with .ensures)
 
 pub open-named-spec : {M : Type 1} → statement M
 open-named-spec =

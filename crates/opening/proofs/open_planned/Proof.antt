@@ -3,14 +3,16 @@ use mathlib.Core.Path.{sym, ap}
 use native.Mathlib.Omega.{arith}
 use lib.ListN.{length}
 use lib.Seq.{length-take-le}
-use Rattle.opening.proofs.Said.{opens-as, question-names, names-as-said}
+use Rattle.opening.proofs.Said.{opens-as, question-names, names-found, names-as-said}
 use borrow.Author.Needs.{needs}
 use Rattle.opening.proofs.open_planned.Statement.{statement}
 use Rattle.opening.proofs.open_planned.Tie as tie
 
 -- there is room for the names
 few : tie.Need-array-share-prefix-names
-few c = omega (arith, ap length (c .before .before .before .names-in .ensures), question-names _ (c .before .before .before .before .before .before .pre) .1)
+few c =
+    let pre = c .before .before .before .before .before .before .pre in
+    omega (arith, ap length (names-found _ _ (pre .0) (c .before .before .before .items .ensures)), question-names _ (pre .1) .1)
 
 array-share-prefix-names : tie.Need-array-share-prefix-names
 array-share-prefix-names c = few c
@@ -20,8 +22,9 @@ slice-aggregate-open-named c = sym (length-take-le _ _ (few (c .before)))
 
 returns : tie.Need-returns
 returns c =
-    let a = c .before .before .before .before .before .before .before .before .before .before .before .args in
-    opens-as (names-as-said (a .words .now) _ _ (a .plan) (a .cost) _ _ (c .before .before .before .before .before .before .before .before .before .before .before .pre) (c .before .before .before .before .before .before .before .before .names-in .ensures) (c .before .before .before .before .before .before .read-bytes .ensures .1)) (c .before .before .open-named .ensures)
+    let start = c .before .before .before .before .before .before .before .before .before .before .before in
+    let a = start .args in
+    opens-as (names-as-said (a .words .now) _ _ (a .plan) (a .cost) _ _ (start .pre .1) (names-found _ _ (start .pre .0) (c .before .before .before .before .before .before .before .before .items .ensures)) (c .before .before .before .before .before .before .read-bytes .ensures .1)) (c .before .before .open-named .ensures)
 
 pub open-planned-spec : {M : Type 1} → statement M
 open-planned-spec =

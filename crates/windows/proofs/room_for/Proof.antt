@@ -9,13 +9,13 @@ returns : tie.Need-returns
 returns c = room-none _ _ _ (c .if1 .taken)
 
 mul-result : tie.Need-mul-result
-mul-result c = let a = c .before .before .args in let e = room-least (a .left) (a .width) (a .length) (c .if2 .taken) in record { fits = omega (arith, e, room-within (a .left) (a .width) (a .length)) }
+mul-result c = let a = c .before .before .args in let e = room-least (a .left) (a .width) (a .size) (c .if2 .taken) in record { fits = omega (arith, e, room-within (a .left) (a .width) (a .size)) }
 
 returns-2 : tie.Need-returns-2
 returns-2 c = room-least _ _ _ (c .if2 .taken)
 
 mul-result-2 : tie.Need-mul-result-2
-mul-result-2 c = let a = c .before .before .args in let e = room-all (a .left) (a .width) (a .length) (c .if2 .left) in record { fits = omega (arith, e, room-within (a .left) (a .width) (a .length)) }
+mul-result-2 c = let a = c .before .before .args in let e = room-all (a .left) (a .width) (a .size) (c .if2 .left) in record { fits = omega (arith, e, room-within (a .left) (a .width) (a .size)) }
 
 returns-3 : tie.Need-returns-3
 returns-3 c = room-all _ _ _ (c .if2 .left)
