@@ -10,6 +10,7 @@ use query::Selects;
 use query::Statement;
 use query::Statements;
 use query::Var;
+use query::ZERO_STATEMENT;
 ghost use mathlib.Core.Path.{_≡_};
 ghost use mathlib.Core.Bool.{true};
 ghost use mathlib.Core.List.{_++_};
@@ -212,12 +213,6 @@ pub fn read_query(words: &[u64], parts: Parts) -> Query
         select,
     }
 }
-
-const ZERO_STATEMENT: Statement = Statement {
-    entity: Var(0),
-    attribute: Aid(0),
-    value: QueryValue::Const(0),
-};
 
 // The statements: as many as fit, zeros past them, and the count of all.
 fn read_statements(words: &[u64], count: usize) -> Statements

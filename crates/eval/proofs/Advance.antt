@@ -13,7 +13,7 @@ use Rattle.visits.specs.Visits.{Tables, slotsAt}
 use Rattle.visits.specs.Sound.{Sound, Agree}
 use Rattle.visits.specs.Pending.{extend, position, ending, current, currentSlots, pending}
 use Rattle.visits.proofs.Pending.{pending-dry, current-slots-length, agree-below}
-use Rattle.eval.specs.Words.{scanWords, scansIn, Laid}
+use Rattle.eval.specs.Words.{laidWords, scansIn, Laid}
 use Rattle.eval.specs.Steps.{Ready, Stepped}
 use Rattle.eval.proofs.Words.{laid-length}
 use Rattle.eval.specs.Next.{innermost, Advanced}
@@ -67,5 +67,5 @@ module _ {ts : Tables} {ss : List Scan} {initial iters slots : List ℕ} (r : Re
     }
 
 -- the innermost scan's number, from the number of words
-pub innermost-is : {ws : List ℕ} {slots : ℕ} → Laid ws slots → length ws / scanWords - 1 ≡ innermost (scansIn ws)
+pub innermost-is : {ws : List ℕ} {slots : ℕ} → Laid ws slots → length ws / laidWords - 1 ≡ innermost (scansIn ws)
 innermost-is h = let e = laid-length h in omega arith

@@ -15,7 +15,7 @@ use Rattle.plan.specs.declared.Flow.the-variants.{OutOut, InOut, InIn}
 use Rattle.plan.specs.Codes.{indexCode}
 use Rattle.plan.specs.Plan.{inOrder, zeroScan}
 use Rattle.visits.specs.Visits.{rowFor, inputs, wanted}
-use Rattle.eval.specs.Words.{scanWords, scansIn, LiesAt}
+use Rattle.eval.specs.Words.{laidWords, scansIn, LiesAt}
 use Rattle.eval.specs.Steps.{keyOf, filledFrom, Found}
 
 -- the words of a key in eavt, and in the other tables
@@ -53,7 +53,7 @@ module _ {ws : List ℕ} {n i : ℕ} (h : LiesAt ws n i) (slots : List ℕ) wher
   scan = getD (scansIn ws) i zeroScan
 
   abbrev word : ℕ → ℕ
-  word k = getD ws (scanWords * i + k) 0
+  word k = getD ws (laidWords * i + k) 0
 
   -- the rows that begin with the key that was read are those that the scan visits
   module _ (t : List ℕ) (from to : ℕ) where
@@ -62,11 +62,11 @@ module _ {ws : List ℕ} {n i : ℕ} (h : LiesAt ws n i) (slots : List ℕ) wher
         let k : word 1 + 1 ≡ 1 + inputs (scan .flow) = omega (arith, h .inputs-is) in
         rw (k, e) at f
 
-    pub found-eavt : getD ws (scanWords * i) 0 ≡ 2 → Found t (key (word 1 + 1) (getD slots (word 3) 0) (word 2) (getD slots (word 4) 0)) from to
+    pub found-eavt : getD ws (laidWords * i) 0 ≡ 2 → Found t (key (word 1 + 1) (getD slots (word 3) 0) (word 2) (getD slots (word 4) 0)) from to
         → Found t (keyOf scan slots) from to
     found-eavt z = found _ _ _ (rw (h .attribute-is, h .first-is, h .second-is) (row-eavt scan slots (scan .index) (sym (h .index-is) ∙ z)))
 
-    pub found-other : (getD ws (scanWords * i) 0 ≡ 2 → ⊥)
+    pub found-other : (getD ws (laidWords * i) 0 ≡ 2 → ⊥)
         → Found t (key (word 1 + 1) (word 2) (getD slots (word 3) 0) (getD slots (word 4) 0)) from to → Found t (keyOf scan slots) from to
     found-other z = found _ _ _ (rw (h .attribute-is, h .first-is, h .second-is) (row-other scan slots (scan .index) (λ e. z (h .index-is ∙ e))))
 

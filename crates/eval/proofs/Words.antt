@@ -15,7 +15,7 @@ use Rattle.plan.specs.Codes.{indexCode, indexOfCode}
 use Rattle.plan.specs.Plan.{inOrder, firstSlot, secondSlot, zeroScan}
 use Rattle.plan.proofs.Codes.{index-code-back, flow-code-back}
 use Rattle.visits.specs.Visits.{Tables, tableOf, inputs}
-use Rattle.eval.specs.Words.{scanWords, scanOf, wordsOf, scansIn, LiesAt, Laid}
+use Rattle.eval.specs.Words.{laidWords, scanOf, wordsOf, scansIn, LiesAt, Laid}
 
 in-order-twice : (x : Index) (e v : Slot) → inOrder x (inOrder x e v) (inOrder x v e) ≡ e
 in-order-twice Aevt e v = refl
@@ -34,17 +34,17 @@ scans-back (s ∷ ss) = rw (scan-back s, scans-back ss)
 
 -- scan s lies in the words at number i
 record At (ws : List ℕ) (i : ℕ) (s : Scan) : Type 0 where
-  whole : scanWords * i + scanWords ≤ length ws
-  index-is : getD ws (scanWords * i) 0 ≡ indexCode (s .index)
-  inputs-is : getD ws (scanWords * i + 1) 0 ≡ inputs (s .flow)
-  attribute-is : getD ws (scanWords * i + 2) 0 ≡ s .attribute .0
-  first-is : getD ws (scanWords * i + 3) 0 ≡ firstSlot s .0
-  second-is : getD ws (scanWords * i + 4) 0 ≡ secondSlot s .0
+  whole : laidWords * i + laidWords ≤ length ws
+  index-is : getD ws (laidWords * i) 0 ≡ indexCode (s .index)
+  inputs-is : getD ws (laidWords * i + 1) 0 ≡ inputs (s .flow)
+  attribute-is : getD ws (laidWords * i + 2) 0 ≡ s .attribute .0
+  first-is : getD ws (laidWords * i + 3) 0 ≡ firstSlot s .0
+  second-is : getD ws (laidWords * i + 4) 0 ≡ secondSlot s .0
 
 -- after the words of one more scan they all lie one scan further on
 module _ (x f a y z : ℕ) (ws : List ℕ) (i : ℕ) where
-  word-later : (k : ℕ) → getD (x ∷ f ∷ a ∷ y ∷ z ∷ ws) (scanWords * suc i + k) 0 ≡ getD ws (scanWords * i + k) 0
-  word-later k = let e : scanWords * suc i + k ≡ suc (suc (suc (suc (suc (scanWords * i + k))))) = omega arith in rw e refl
+  word-later : (k : ℕ) → getD (x ∷ f ∷ a ∷ y ∷ z ∷ ws) (laidWords * suc i + k) 0 ≡ getD ws (laidWords * i + k) 0
+  word-later k = let e : laidWords * suc i + k ≡ suc (suc (suc (suc (suc (laidWords * i + k))))) = omega arith in rw e refl
 
   lies-later : (s : Scan) → At ws i s → At (x ∷ f ∷ a ∷ y ∷ z ∷ ws) (suc i) s
   lies-later s h = record {
@@ -87,16 +87,16 @@ laid-lies {ws} h i l =
     go : (vs : List ℕ) → vs ≡ wordsOf (scansIn ws) → At vs i (getD (scansIn ws) i zeroScan)
     go vs e = rw e (scans-lie (scansIn ws) i l)
 
-words-length : (ss : List Scan) → length (wordsOf ss) ≡ scanWords * length ss
+words-length : (ss : List Scan) → length (wordsOf ss) ≡ laidWords * length ss
 unfolding wordsOf
 words-length [] = refl
 words-length (s ∷ ss) = let e = words-length ss in omega arith
 
 -- how many words there are
-pub laid-length : {ws : List ℕ} {slots : ℕ} → Laid ws slots → length ws ≡ scanWords * length (scansIn ws)
+pub laid-length : {ws : List ℕ} {slots : ℕ} → Laid ws slots → length ws ≡ laidWords * length (scansIn ws)
 laid-length {ws} h = ap length (h .words-are) ∙ words-length (scansIn ws)
 
 -- the table with the number that was read is the scan's
-pub table-is : {ws : List ℕ} {n i : ℕ} → LiesAt ws n i → (ts : Tables) (t : List ℕ) → t ≡ tableOf ts (indexOfCode (getD ws (scanWords * i) 0))
+pub table-is : {ws : List ℕ} {n i : ℕ} → LiesAt ws n i → (ts : Tables) (t : List ℕ) → t ≡ tableOf ts (indexOfCode (getD ws (laidWords * i) 0))
     → t ≡ tableOf ts (getD (scansIn ws) i zeroScan .index)
 table-is {ws} {n} {i} h ts t e = e ∙ ap (λ (k : ℕ). tableOf ts (indexOfCode k)) (h .index-is) ∙ ap (tableOf ts) (index-code-back (getD (scansIn ws) i zeroScan .index))

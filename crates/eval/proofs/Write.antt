@@ -8,11 +8,11 @@ use lib.ListN.{length, getD, take, drop, set, length-append}
 use lib.Seq.{sets-eq, take-suc, take-at, length-take-le}
 use Rattle.plan.specs.declared.Scan.{Scan}
 use Rattle.plan.specs.Plan.{zeroScan}
-use Rattle.eval.specs.Words.{scanWords, wordsOf}
+use Rattle.eval.specs.Words.{laidWords, wordsOf}
 
 -- five words, one after the other
-pub write-five : (l : List ℕ) (at a b c d e : ℕ) → at + scanWords ≤ length l
-    → set (set (set (set (set l at a) (at + 1) b) (at + 2) c) (at + 3) d) (at + 4) e ≡ take at l ++ (a ∷ b ∷ c ∷ d ∷ e ∷ []) ++ drop (at + scanWords) l
+pub write-five : (l : List ℕ) (at a b c d e : ℕ) → at + laidWords ≤ length l
+    → set (set (set (set (set l at a) (at + 1) b) (at + 2) c) (at + 3) d) (at + 4) e ≡ take at l ++ (a ∷ b ∷ c ∷ d ∷ e ∷ []) ++ drop (at + laidWords) l
 write-five l at a b c d e h =
     let one : at + 1 ≡ suc at = omega arith in
     let two : at + 2 ≡ suc (suc at) = omega arith in
@@ -25,19 +25,19 @@ unfolding wordsOf
 words-append [] rest = refl
 words-append (s ∷ ss) rest = rw (words-append ss rest)
 
-words-one : (s : Scan) → length (wordsOf (s ∷ [])) ≡ scanWords
+words-one : (s : Scan) → length (wordsOf (s ∷ [])) ≡ laidWords
 unfolding wordsOf
 words-one s = refl
 
 -- one scan more
-pub write-more : (scans : List Scan) (ws vs : List ℕ) (i : ℕ) → i < length scans → scanWords * i + scanWords ≤ length ws
-    → take (scanWords * i) ws ≡ wordsOf (take i scans)
-    → vs ≡ take (scanWords * i) ws ++ wordsOf (getD scans i zeroScan ∷ []) ++ drop (scanWords * i + scanWords) ws
-    → take (scanWords * (i + 1)) vs ≡ wordsOf (take (i + 1) scans)
+pub write-more : (scans : List Scan) (ws vs : List ℕ) (i : ℕ) → i < length scans → laidWords * i + laidWords ≤ length ws
+    → take (laidWords * i) ws ≡ wordsOf (take i scans)
+    → vs ≡ take (laidWords * i) ws ++ wordsOf (getD scans i zeroScan ∷ []) ++ drop (laidWords * i + laidWords) ws
+    → take (laidWords * (i + 1)) vs ≡ wordsOf (take (i + 1) scans)
 write-more scans ws vs i l h done e =
     let s = getD scans i zeroScan in
-    let front = take (scanWords * i) ws ++ wordsOf (s ∷ []) in
-    let long : length front ≡ scanWords * (i + 1) =
-    length-append (take (scanWords * i) ws) (wordsOf (s ∷ [])) ∙ rw (length-take-le (scanWords * i) ws (omega arith), words-one s) (omega arith) in
-    ap (take (scanWords * (i + 1))) e ∙ take-at front _ (scanWords * (i + 1)) long ∙
+    let front = take (laidWords * i) ws ++ wordsOf (s ∷ []) in
+    let long : length front ≡ laidWords * (i + 1) =
+    length-append (take (laidWords * i) ws) (wordsOf (s ∷ [])) ∙ rw (length-take-le (laidWords * i) ws (omega arith), words-one s) (omega arith) in
+    ap (take (laidWords * (i + 1))) e ∙ take-at front _ (laidWords * (i + 1)) long ∙
     rw (done, add-one i, take-suc scans i zeroScan l) (sym (words-append (take i scans) (s ∷ [])))

@@ -20,7 +20,7 @@ use Rattle.tables.specs.Check.{tablesFault}
 use Rattle.visits.specs.Visits.{Tables, valueOf, rowList}
 use Rattle.visits.specs.Window.{window, follows, filled}
 use Rattle.visits.specs.Pending.{iterWords}
-use Rattle.eval.specs.Words.{scanWords, wordsOf}
+use Rattle.eval.specs.Words.{laidWords, wordsOf}
 use Rattle.eval.specs.Steps.{Ascend}
 use Rattle.eval.specs.Next.{Shows}
 use Rattle.eval.specs.declared.Evaluated.{Evaluated}
@@ -42,7 +42,7 @@ pub record Evaluable (p : Plan) (ts : Tables) : Type 0 where
 
 -- the state has room for any plan
 pub record Roomy (words initial selects iters slots : ℕ) : Type 0 where
-  pub words-room : scanWords * maxScans ≤ words
+  pub words-room : laidWords * maxScans ≤ words
   pub initial-room : maxSlots ≤ initial
   pub selects-room : maxSelects ≤ selects
   pub iters-room : iterWords * maxScans ≤ iters
@@ -51,14 +51,14 @@ pub record Roomy (words initial selects iters slots : ℕ) : Type 0 where
 -- a plan whose counts are within the capacities, and room for what is written out of it
 pub record RoomFor (p : Plan) (words initial selects slots : ℕ) : Type 0 where
   pub counted : Counted (p .«scan_count») (p .«slot_count») (p .«select_count»)
-  pub words-fit : scanWords * p .«scan_count» ≤ words
+  pub words-fit : laidWords * p .«scan_count» ≤ words
   pub initial-fit : p .«slot_count» ≤ initial
   pub selects-fit : p .«select_count» ≤ selects
   pub slots-fit : p .«slot_count» ≤ slots
 
 -- the plan stands in front of the buffers: its scans as words, what its slots hold before any scan, twice, and the numbers of its selects
 pub record WrittenOut (p : Plan) (words initial selects slots : List ℕ) : Type 0 where
-  pub words-are : take (scanWords * p .«scan_count») words ≡ wordsOf (scansOf p)
+  pub words-are : take (laidWords * p .«scan_count») words ≡ wordsOf (scansOf p)
   pub initial-are : take (p .«slot_count») initial ≡ valuesOf (slotsOf p)
   pub selects-are : take (p .«select_count») selects ≡ numbersOf (selectsOf p)
   pub slots-are : take (p .«slot_count») slots ≡ valuesOf (slotsOf p)

@@ -12,8 +12,8 @@ use Rattle.visits.specs.Visits.{inputs}
 use Rattle.visits.specs.Sound.{Sound}
 
 -- five words a scan
-abbrev pub scanWords : ℕ
-scanWords = 5
+abbrev pub laidWords : ℕ
+laidWords = 5
 
 unfoldable pub wordsOf : List Scan → List ℕ
 wordsOf [] = []
@@ -42,15 +42,15 @@ scansIn (x ∷ f ∷ a ∷ y ∷ z ∷ ws) = scanOf x f a y z ∷ scansIn ws
 
 -- the words of scan i say what the scan is, and its slots are among so many
 pub record LiesAt (ws : List ℕ) (slots i : ℕ) : Type 0 where
-  pub whole : scanWords * i + scanWords ≤ length ws
-  pub index-is : getD ws (scanWords * i) 0 ≡ indexCode (getD (scansIn ws) i zeroScan .index)
-  pub inputs-is : getD ws (scanWords * i + 1) 0 ≡ inputs (getD (scansIn ws) i zeroScan .flow)
-  pub few-inputs : getD ws (scanWords * i + 1) 0 ≤ 2
-  pub attribute-is : getD ws (scanWords * i + 2) 0 ≡ getD (scansIn ws) i zeroScan .attribute .0
-  pub first-is : getD ws (scanWords * i + 3) 0 ≡ firstSlot (getD (scansIn ws) i zeroScan) .0
-  pub first-in : getD ws (scanWords * i + 3) 0 < slots
-  pub second-is : getD ws (scanWords * i + 4) 0 ≡ secondSlot (getD (scansIn ws) i zeroScan) .0
-  pub second-in : getD ws (scanWords * i + 4) 0 < slots
+  pub whole : laidWords * i + laidWords ≤ length ws
+  pub index-is : getD ws (laidWords * i) 0 ≡ indexCode (getD (scansIn ws) i zeroScan .index)
+  pub inputs-is : getD ws (laidWords * i + 1) 0 ≡ inputs (getD (scansIn ws) i zeroScan .flow)
+  pub few-inputs : getD ws (laidWords * i + 1) 0 ≤ 2
+  pub attribute-is : getD ws (laidWords * i + 2) 0 ≡ getD (scansIn ws) i zeroScan .attribute .0
+  pub first-is : getD ws (laidWords * i + 3) 0 ≡ firstSlot (getD (scansIn ws) i zeroScan) .0
+  pub first-in : getD ws (laidWords * i + 3) 0 < slots
+  pub second-is : getD ws (laidWords * i + 4) 0 ≡ secondSlot (getD (scansIn ws) i zeroScan) .0
+  pub second-in : getD ws (laidWords * i + 4) 0 < slots
 
 -- words that are those of scans, and of such as a plan of so many slots that passes the check has
 pub record Laid (ws : List ℕ) (slots : ℕ) : Type 0 where

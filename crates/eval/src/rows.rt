@@ -7,7 +7,7 @@
 
 // Port of the iterator of src/eval.rs to Rattle, changed: it does not hand out boxed rows, but writes a window of them to a lent
 // buffer.
-use super::walk::SCAN_WORDS;
+use super::walk::LAID_WORDS;
 ghost use mathlib.Core.Path.{_≡_};
 ghost use mathlib.Core.List.{_++_};
 ghost use Prim.Native.Nat.{_+_, _/_, _≤_, _<_};
@@ -116,7 +116,7 @@ fn next<'a>(
     requires { ⌜ Ready (tablesOf (now aevt) (now avet) (now eavt)) (scansIn (now words)) (now initial) (now iters) (now slots) (innermost (scansIn (now words))) ⌝ }
     ensures { λ r. ⌜ Advanced (tablesOf (now (aevt .entry)) (now (avet .entry)) (now (eavt .entry))) (scansIn (now (words .entry))) (now (initial .entry)) (now (iters .entry)) r (now (iters .exit)) (now (slots .exit)) ⌝ }
 {
-    let innermost_iter = words.len() / SCAN_WORDS - 1;
+    let innermost_iter = words.len() / LAID_WORDS - 1;
     super::walk::increment(
         innermost_iter,
         words,

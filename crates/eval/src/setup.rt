@@ -9,7 +9,7 @@
 // copied at a row, and the state stands in arrays.
 use super::rows::Shown;
 use super::walk::ITER_WORDS;
-use super::walk::SCAN_WORDS;
+use super::walk::LAID_WORDS;
 use capacity::MAX_SCANS;
 use capacity::MAX_SELECTS;
 use capacity::MAX_SLOTS;
@@ -27,13 +27,13 @@ ghost use Rattle.capacity.specs.Capacity.{maxScans, maxSlots, maxSelects};
 ghost use Rattle.plan.specs.Plan.{inOrder};
 ghost use Rattle.visits.specs.Visits.{tablesOf, valueOf, visits};
 ghost use Rattle.visits.specs.Pending.{iterWords};
-ghost use Rattle.eval.specs.Words.{scanWords, wordsOf, scansIn, Laid};
+ghost use Rattle.eval.specs.Words.{laidWords, wordsOf, scansIn, Laid};
 ghost use Rattle.eval.specs.Steps.{Ascend};
 ghost use Rattle.eval.specs.Next.{Named, rowsAt, Shows};
 ghost use Rattle.eval.specs.Evaluation.{valuesOf, numbersOf, Evaluable, Roomy, RoomFor, WrittenOut, ShowsRows};
 
 // The words of as many scans, and of as many iterators, as a plan can have.
-const MAX_WORDS: usize = SCAN_WORDS * MAX_SCANS;
+const MAX_WORDS: usize = LAID_WORDS * MAX_SCANS;
 
 const MAX_ITERS: usize = ITER_WORDS * MAX_SCANS;
 
@@ -89,7 +89,7 @@ fn evaluate_in<'a>(
     ensures { λ r. ⌜ ShowsRows plan (tablesOf (now (aevt .entry)) (now (avet .entry)) (now (eavt .entry))) from (now (rows .entry)) (r .count) (r .more) (now (rows .exit)) ⌝ }
 {
     write_plan(plan, words, initial, selects, slots);
-    let word_count = SCAN_WORDS * plan.scan_count;
+    let word_count = LAID_WORDS * plan.scan_count;
     let slot_count = plan.slot_count;
     let select_count = plan.select_count;
     run(
@@ -182,20 +182,20 @@ fn write_plan(
 
 // Write the words of so many scans.
 fn write_scans(scans: [Scan; MAX_SCANS], scan_count: usize, words: &mut [u64])
-    requires { ⌜ («scan_count» ≤ maxScans) × (scanWords * «scan_count» ≤ length (now words)) ⌝ }
-    ensures { λ r. ⌜ take (scanWords * «scan_count») (now (words .exit)) ≡ wordsOf (take «scan_count» scans) ⌝ }
+    requires { ⌜ («scan_count» ≤ maxScans) × (laidWords * «scan_count» ≤ length (now words)) ⌝ }
+    ensures { λ r. ⌜ take (laidWords * «scan_count») (now (words .exit)) ≡ wordsOf (take «scan_count» scans) ⌝ }
 {
     let mut i = 0;
     while i < scan_count {
-        write_scan(scans[i], SCAN_WORDS * i, words);
+        write_scan(scans[i], LAID_WORDS * i, words);
         i += 1;
     }
 }
 
 // Write a scan's words, from `at` on.
 fn write_scan(scan: Scan, at: usize, words: &mut [u64])
-    requires { ⌜ at + scanWords ≤ length (now words) ⌝ }
-    ensures { λ r. ⌜ now (words .exit) ≡ take at (now (words .entry)) ++ wordsOf (scan ∷ []) ++ drop (at + scanWords) (now (words .entry)) ⌝ }
+    requires { ⌜ at + laidWords ≤ length (now words) ⌝ }
+    ensures { λ r. ⌜ now (words .exit) ≡ take at (now (words .entry)) ++ wordsOf (scan ∷ []) ++ drop (at + laidWords) (now (words .entry)) ⌝ }
 {
     let index = scan.index;
     let flow = scan.flow;

@@ -22,7 +22,7 @@ ghost use Rattle.eval.specs.Words.{scansIn, LiesAt, Laid};
 ghost use Rattle.eval.specs.Steps.{keyOf, filledFrom, Found, Ascend, Ready, Stepped};
 
 // A scan's words: its table's number, how many inputs it has, its attribute, and its two slots in index order.
-pub(crate) const SCAN_WORDS: usize = 5;
+pub(crate) const LAID_WORDS: usize = 5;
 
 // The words of an iterator in the state: its position and its end.
 pub(crate) const ITER_WORDS: usize = 2;
@@ -54,7 +54,7 @@ pub(crate) fn increment<'a>(
     requires { ⌜ Ready (tablesOf (now aevt) (now avet) (now eavt)) (scansIn (now words)) (now initial) (now iters) (now slots) i ⌝ }
     ensures { λ r. ⌜ Stepped (tablesOf (now (aevt .entry)) (now (avet .entry)) (now (eavt .entry))) (scansIn (now (words .entry))) (now (initial .entry)) (now (iters .entry)) i r (now (iters .exit)) (now (slots .exit)) ⌝ }
 {
-    let table = get_table(aevt, avet, eavt, words[SCAN_WORDS * i]);
+    let table = get_table(aevt, avet, eavt, words[LAID_WORDS * i]);
     loop {
         let position = iters[ITER_WORDS * i];
         let end = iters[ITER_WORDS * i + 1];
@@ -80,11 +80,11 @@ pub(crate) fn get_iter(i: usize, words: &[u64], table: &[u64], slots: &[u64]) ->
     requires { ⌜ LiesAt (now words) (length (now slots)) i ⌝ }
     ensures { λ r. ⌜ Found (now (table .entry)) (keyOf (getD (scansIn (now (words .entry))) i zeroScan) (now (slots .entry))) (r .position) (r .end) ⌝ }
 {
-    let number = words[SCAN_WORDS * i];
-    let inputs = words[SCAN_WORDS * i + 1] as usize + 1;
-    let attribute = words[SCAN_WORDS * i + 2];
-    let first = slots[words[SCAN_WORDS * i + 3] as usize];
-    let second = slots[words[SCAN_WORDS * i + 4] as usize];
+    let number = words[LAID_WORDS * i];
+    let inputs = words[LAID_WORDS * i + 1] as usize + 1;
+    let attribute = words[LAID_WORDS * i + 2];
+    let first = slots[words[LAID_WORDS * i + 3] as usize];
+    let second = slots[words[LAID_WORDS * i + 4] as usize];
     if number == EAVT {
         return get_scan_bounds(table, inputs, first, attribute, second);
     }
@@ -111,13 +111,13 @@ fn fill_slots(i: usize, words: &[u64], rows: &[u64], slots: &mut [u64])
     requires { ⌜ 0 < count (now rows) ⌝ }
     ensures { λ r. ⌜ now (slots .exit) ≡ filledFrom (row (now (rows .entry)) 0) (getD (scansIn (now (words .entry))) i zeroScan) (now (slots .entry)) ⌝ }
 {
-    let inputs = words[SCAN_WORDS * i + 1];
+    let inputs = words[LAID_WORDS * i + 1];
     if inputs == 2 {
         // Only the iteration matters, the values are known.
         return;
     }
-    let first = words[SCAN_WORDS * i + 3] as usize;
-    let second = words[SCAN_WORDS * i + 4] as usize;
+    let first = words[LAID_WORDS * i + 3] as usize;
+    let second = words[LAID_WORDS * i + 4] as usize;
     if inputs == 0 {
         slots[first] = rows[1];
         slots[second] = rows[2];

@@ -5,7 +5,8 @@ use Prim.Native.Nat.{ℕ, _-_, _/_, _^_, _≤_, _<_}
 use native.Mathlib.Omega.{arith}
 use lib.Dec.{leb, ltb, eqb}
 use borrow.Author.Tests.{leb-true, leb-false, ltb-true, eq-eqb, ne-eqb, lt-leb, le-leb, lt-ltb, le-ltb}
-use Rattle.layout.specs.Words.{space, digit, longer, goesOn}
+use Rattle.pieces.specs.Decimal.{digit as digitByte}
+use Rattle.layout.specs.Words.{space, digit, digitValue, longer, goesOn}
 
 module _ (b : ℕ) where
   pub space-tab : b ≡ 9 → true ≡ space b
@@ -26,13 +27,13 @@ module _ (b : ℕ) where
       unfolding space
       space-last h = rw (ne-eqb b 9 no-tab, ne-eqb b 10 no-line-feed, ne-eqb b 13 h)
 
-  pub digit-below : b < 48 → false ≡ digit b
+  pub digit-below : b < digitByte 0 → false ≡ digit b
   unfolding digit
-  digit-below h = rw (lt-leb 48 b h)
+  digit-below h = rw (lt-leb (digitByte 0) b h)
 
-  pub digit-from : 48 ≤ b → leb b 57 ≡ digit b
+  pub digit-from : digitByte 0 ≤ b → leb b (digitByte 9) ≡ digit b
   unfolding digit
-  digit-from h = rw (le-leb 48 b h)
+  digit-from h = rw (le-leb (digitByte 0) b h)
 
 -- both of two tests hold
 and-both : (p q : Bool) → p && q ≡ true → (p ≡ true) × (q ≡ true)
@@ -40,13 +41,13 @@ and-both true q h = (refl, h)
 and-both false q h = absurd (false≢true h)
 
 module _ (b : ℕ) (h : digit b ≡ true) where
-  pub digit-least : 48 ≤ b
+  pub digit-least : digitByte 0 ≤ b
   unfolding digit
-  digit-least = leb-true 48 b (and-both (leb 48 b) (leb b 57) h .0)
+  digit-least = leb-true (digitByte 0) b (and-both (leb (digitByte 0) b) (leb b (digitByte 9)) h .0)
 
-  pub digit-most : b ≤ 57
+  pub digit-most : b ≤ digitByte 9
   unfolding digit
-  digit-most = leb-true b 57 (and-both (leb 48 b) (leb b 57) h .1)
+  digit-most = leb-true b (digitByte 9) (and-both (leb (digitByte 0) b) (leb b (digitByte 9)) h .1)
 
 module _ (v b : ℕ) where
   pub no-digit-stops : digit b ≡ false → false ≡ goesOn v b
@@ -58,17 +59,17 @@ module _ (v b : ℕ) where
   zero-stops d h = rw (d, le-ltb 0 v (omega arith))
 
   -- room for the digit is what is left of the largest word, by tens
-  pub room-for : digit b ≡ true → (v ≡ 0 → ⊥) → leb v ((18446744073709551615 - (b - 48)) / 10) ≡ goesOn v b
+  pub room-for : digit b ≡ true → (v ≡ 0 → ⊥) → leb v ((2 ^ 64 - 1 - digitValue b) / 10) ≡ goesOn v b
   unfolding goesOn
-  room-for d h = rw (d, lt-ltb 0 v (omega arith)) (fits (leb v ((18446744073709551615 - (b - 48)) / 10)) refl)
+  room-for d h = rw (d, lt-ltb 0 v (omega arith)) (fits (leb v ((2 ^ 64 - 1 - digitValue b) / 10)) refl)
     where
-      fits : (t : Bool) → leb v ((18446744073709551615 - (b - 48)) / 10) ≡ t → t ≡ ltb (longer v b) (2 ^ 64)
+      fits : (t : Bool) → leb v ((2 ^ 64 - 1 - digitValue b) / 10) ≡ t → t ≡ ltb (longer v b) (2 ^ 64)
       fits true e =
-          let k = leb-true v ((18446744073709551615 - (b - 48)) / 10) e in
+          let k = leb-true v ((2 ^ 64 - 1 - digitValue b) / 10) e in
           let m = digit-most b d in
           sym (lt-ltb (longer v b) (2 ^ 64) (omega arith))
       fits false e =
-          let k = leb-false v ((18446744073709551615 - (b - 48)) / 10) e in
+          let k = leb-false v ((2 ^ 64 - 1 - digitValue b) / 10) e in
           let m = digit-most b d in
           sym (le-ltb (longer v b) (2 ^ 64) (omega arith))
 

@@ -6,7 +6,7 @@ use Prim.Native.Nat.{ℕ, _+_, _-_, _≤_, _<_}
 use native.Mathlib.Numerals.{add-one}
 use lib.ListN.{length, drop, getD, drop-of-length-le}
 use lib.Seq.{drop-cons}
-use Rattle.layout.specs.Words.{space, digit, longer, goesOn, said, saidAfter, end, outside, before}
+use Rattle.layout.specs.Words.{space, digit, digitValue, longer, goesOn, said, saidAfter, end, outside, before}
 
 module _ (text : List ℕ) (i : ℕ) where
   -- at the end
@@ -26,7 +26,7 @@ module _ (text : List ℕ) (i : ℕ) where
     said-space s = rw (drop-cons text i 0 h, s, add-one)
 
     pub said-digit : space (getD text i 0) ≡ false → digit (getD text i 0) ≡ true
-        → said (drop i text) ≡ saidAfter (drop (i + 1) text) (getD text i 0 - 48)
+        → said (drop i text) ≡ saidAfter (drop (i + 1) text) (digitValue (getD text i 0))
     unfolding said
     said-digit s d = rw (drop-cons text i 0 h, s, d, add-one)
 

@@ -4,6 +4,7 @@ use mathlib.Core.Bool.{Bool, true, false, cond, _&&_, _||_}
 use mathlib.Core.List.{List, [], _∷_, _++_}
 use lib.ListN.{length, take, drop}
 use lib.Dec.{leb, ltb, eqb}
+use Rattle.pieces.specs.Decimal.{digit as digitByte}
 use Rattle.layout.specs.declared.Read.{Read}
 
 -- the bytes that separate numbers: tab, line feed, carriage return, space
@@ -12,11 +13,15 @@ space b = eqb b 9 || (eqb b 10 || (eqb b 13 || eqb b 32))
 
 -- the bytes of digits, from 0 to 9
 unfoldable pub digit : ℕ → Bool
-digit b = leb 48 b && leb b 57
+digit b = leb (digitByte 0) b && leb b (digitByte 9)
+
+-- and what one counts
+abbrev pub digitValue : ℕ → ℕ
+digitValue b = b - digitByte 0
 
 -- a number with one more digit
 abbrev pub longer : ℕ → ℕ → ℕ
-longer v b = v * 10 + (b - 48)
+longer v b = v * 10 + digitValue b
 
 -- whether a byte is the next digit of a number: a digit, not after a leading zero, and the number stays below 2^64
 unfoldable pub goesOn : ℕ → ℕ → Bool
@@ -43,7 +48,7 @@ before vs s = record { inside = s .inside; words = vs ++ s .words }
 unfoldable mutual
   pub said : List ℕ → Said
   said [] = end
-  said (b ∷ bs) = cond (space b) (said bs) (cond (digit b) (saidAfter bs (b - 48)) outside)
+  said (b ∷ bs) = cond (space b) (said bs) (cond (digit b) (saidAfter bs (digitValue b)) outside)
 
   pub saidAfter : List ℕ → ℕ → Said
   saidAfter [] v = before (v ∷ []) end

@@ -3,7 +3,7 @@ ghost use mathlib.Core.Path.{_≡_};
 ghost use mathlib.Core.Bool.{false, true};
 ghost use Prim.Native.Nat.{_-_, _≤_, _<_};
 ghost use lib.ListN.{length, getD};
-ghost use Rattle.layout.specs.Words.{space, digit, goesOn, readOf, wordsAfter};
+ghost use Rattle.layout.specs.Words.{space, digit, digitValue, goesOn, readOf, wordsAfter};
 ghost use Rattle.layout.specs.Words.{longer as Words·longer};
 ghost use Rattle.layout.specs.Steps.{Skipped, NumberFrom, DigitsFrom};
 
@@ -150,7 +150,7 @@ fn is_digit(b: u8) -> bool
 
 fn digit_value(b: u8) -> u64
     requires { ⌜ digit b ≡ true ⌝ }
-    ensures { λ r. ⌜ r ≡ b - 48 ⌝ }
+    ensures { λ r. ⌜ r ≡ digitValue b ⌝ }
 {
     (b - b'0') as u64
 }

@@ -9,14 +9,13 @@
 // are read into a query by value, which is what the crate `planner` works on.
 use capacity::MAX_SELECTS;
 use capacity::MAX_STATEMENTS;
-use datom::Aid;
 use planner::Planned;
 use query::Query;
-use query::QueryValue;
 use query::Selects;
 use query::Statement;
 use query::Statements;
 use query::Var;
+use query::ZERO_STATEMENT;
 ghost use mathlib.Core.Path.{_≡_};
 ghost use mathlib.Core.List.{[]};
 ghost use Prim.Native.Nat.{_+_, _≤_, _<_, _^_};
@@ -109,12 +108,6 @@ pub fn read_selects(lent: &[Var]) -> Selects
     }
     selects
 }
-
-const ZERO_STATEMENT: Statement = Statement {
-    entity: Var(0),
-    attribute: Aid(0),
-    value: QueryValue::Const(0),
-};
 
 fn no_statements() -> Statements
     ensures { λ r. ⌜ r ≡ readStatements [] ⌝ }

@@ -138,6 +138,19 @@ pub struct Plan {
     pub select_count: usize,
 }
 
+// What stands past the counts of every plan made here, and of every array of scans or slots.
+pub const ZERO_SCAN: Scan = Scan {
+    index: Index::Aevt,
+    flow: Flow::OutOut,
+    entity: Slot(0),
+    attribute: Aid(0),
+    value: Slot(0),
+};
+
+pub const VARIABLE_SLOT: SlotRecord = SlotRecord {
+    definition: SlotDefinition::Variable,
+};
+
 // What a scan does with one of its slots.
 pub enum Access {
     Reads,
@@ -185,17 +198,9 @@ impl Plan {
         ensures { λ r. ⌜ r ≡ emptyPlan ⌝ }
     {
         Plan {
-            scans: [Scan {
-                index: Index::Aevt,
-                flow: Flow::OutOut,
-                entity: Slot(0),
-                attribute: Aid(0),
-                value: Slot(0),
-            }; MAX_SCANS],
+            scans: [ZERO_SCAN; MAX_SCANS],
             scan_count: 0,
-            slots: [SlotRecord {
-                definition: SlotDefinition::Variable,
-            }; MAX_SLOTS],
+            slots: [VARIABLE_SLOT; MAX_SLOTS],
             slot_count: 0,
             select: [Slot(0); MAX_SELECTS],
             select_count: 0,

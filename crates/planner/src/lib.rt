@@ -21,6 +21,8 @@ use plan::Scan;
 use plan::Slot;
 use plan::SlotDefinition;
 use plan::SlotRecord;
+use plan::VARIABLE_SLOT;
+use plan::ZERO_SCAN;
 use query::Query;
 use query::QueryValue;
 use query::Statement;
@@ -130,14 +132,6 @@ fn initialize_scans(
         slot_count,
     }
 }
-
-const ZERO_SCAN: Scan = Scan {
-    index: Index::Aevt,
-    flow: Flow::OutOut,
-    entity: Slot(0),
-    attribute: Aid(0),
-    value: Slot(0),
-};
 
 // 16: a statement whose entity and value are one variable, new there.
 fn not_initialized(i: usize) -> Initialized
@@ -302,9 +296,7 @@ fn initialize_slots(
     requires { ⌜ Plannable variables count items ⌝ }
     ensures { λ r. ⌜ r ≡ padded variableSlot maxSlots (slotsFor variables (take count items)) ⌝ }
 {
-    let mut slots = [SlotRecord {
-        definition: SlotDefinition::Variable,
-    }; MAX_SLOTS];
+    let mut slots = [VARIABLE_SLOT; MAX_SLOTS];
     let mut slot_count = variables;
     let mut i = 0;
     while i < count {

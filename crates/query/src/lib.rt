@@ -33,6 +33,13 @@ pub struct Statement {
     pub value: QueryValue,
 }
 
+// What stands past the last statement of every array of statements.
+pub const ZERO_STATEMENT: Statement = Statement {
+    entity: Var(0),
+    attribute: Aid(0),
+    value: QueryValue::Const(0),
+};
+
 // Statements by value: as many as the count says, which may be more than the array holds.
 pub struct Statements {
     pub items: [Statement; MAX_STATEMENTS],

@@ -167,11 +167,7 @@ fn with_statement(text: &[u8], reading: ReadStatements, i: usize) -> ReadStateme
 fn read_statements(text: &[u8], start: usize, count: usize) -> ReadStatements {
     let mut reading = ReadStatements {
         statements: Statements {
-            items: [Statement {
-                entity: Var(0),
-                attribute: Aid(0),
-                value: QueryValue::Const(0),
-            }; MAX_STATEMENTS],
+            items: [query::ZERO_STATEMENT; MAX_STATEMENTS],
             count,
         },
         next: start,

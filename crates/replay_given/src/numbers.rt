@@ -8,13 +8,13 @@ pub struct Number {
 }
 
 fn is_digit(b: u8) -> bool {
-    48 <= b && b <= 57
+    b'0' <= b && b <= b'9'
 }
 
 // The number with one more digit; one that would not fit stays as it is.
 fn with_digit(value: u64, b: u8) -> u64 {
-    let d = (b % 48) as u64;
-    if value <= (18446744073709551615 - d) / 10 {
+    let d = (b % b'0') as u64;
+    if value <= (u64::MAX - d) / 10 {
         value * 10 + d
     } else {
         value

@@ -3,20 +3,16 @@
 use capacity::MAX_SCANS;
 use capacity::MAX_SEARCHED;
 use capacity::MAX_STATEMENTS;
-use datom::Aid;
 use permutation::Permutations;
 use permutation::Swap;
-use plan::Flow;
-use plan::Index;
 use plan::Plan;
 use plan::Scan;
-use plan::Slot;
+use plan::ZERO_SCAN;
 use planner::Planned;
 use query::Query;
-use query::QueryValue;
 use query::Statement;
 use query::Statements;
-use query::Var;
+use query::ZERO_STATEMENT;
 use refusal::Verdict;
 use refusal::refuse;
 ghost use mathlib.Core.Path.{_≡_};
@@ -139,14 +135,6 @@ fn no_best() -> Best
     }
 }
 
-const ZERO_SCAN: Scan = Scan {
-    index: Index::Aevt,
-    flow: Flow::OutOut,
-    entity: Slot(0),
-    attribute: Aid(0),
-    value: Slot(0),
-};
-
 // The order in which the statements were given.
 fn first_order(count: usize) -> [usize; MAX_SEARCHED]
     requires { ⌜ count ≤ maxSearched ⌝ }
@@ -237,12 +225,6 @@ fn arrange_items(
     }
     items
 }
-
-const ZERO_STATEMENT: Statement = Statement {
-    entity: Var(0),
-    attribute: Aid(0),
-    value: QueryValue::Const(0),
-};
 
 // The best of the plans listed from these scans on, and of what was there.
 fn weigh_plans(

@@ -21,12 +21,15 @@ use plan::Scan;
 use plan::Slot;
 use plan::SlotDefinition;
 use plan::SlotRecord;
+use plan::VARIABLE_SLOT;
+use plan::ZERO_SCAN;
 use query::Query;
 use query::QueryValue;
 use query::Selects;
 use query::Statement;
 use query::Statements;
 use query::Var;
+use query::ZERO_STATEMENT;
 ghost use mathlib.Core.Path.{_≡_};
 ghost use Prim.Native.Nat.{_<_, min};
 ghost use Rattle.capacity.specs.Capacity.{maxScans, maxSlots, maxSelects, maxStatements};
@@ -118,24 +121,6 @@ pub fn read_query(words: &[u64; QUERY_WORDS]) -> Query
     }
 }
 
-const ZERO_SCAN: Scan = Scan {
-    index: Index::Aevt,
-    flow: Flow::OutOut,
-    entity: Slot(0),
-    attribute: Aid(0),
-    value: Slot(0),
-};
-
-const VARIABLE: SlotRecord = SlotRecord {
-    definition: SlotDefinition::Variable,
-};
-
-const ZERO_STATEMENT: Statement = Statement {
-    entity: Var(0),
-    attribute: Aid(0),
-    value: QueryValue::Const(0),
-};
-
 fn read_scans(words: &[u64; PLAN_WORDS]) -> [Scan; MAX_SCANS]
     ensures { λ r. ⌜ r ≡ scansIn (now (words .entry)) ⌝ }
 {
@@ -151,7 +136,7 @@ fn read_scans(words: &[u64; PLAN_WORDS]) -> [Scan; MAX_SCANS]
 fn read_slots(words: &[u64; PLAN_WORDS]) -> [SlotRecord; MAX_SLOTS]
     ensures { λ r. ⌜ r ≡ slotsIn (now (words .entry)) ⌝ }
 {
-    let mut slots = [VARIABLE; MAX_SLOTS];
+    let mut slots = [VARIABLE_SLOT; MAX_SLOTS];
     let mut i: usize = 0;
     while i < MAX_SLOTS {
         slots[i] = read_slot(words, i);

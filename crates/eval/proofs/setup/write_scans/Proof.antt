@@ -5,13 +5,13 @@ use native.Mathlib.Omega.{arith}
 use borrow.Author.Needs.{needs}
 use lib.ListN.{length, take}
 use Rattle.capacity.specs.Capacity.{maxScans}
-use Rattle.eval.specs.Words.{scanWords, wordsOf}
+use Rattle.eval.specs.Words.{laidWords, wordsOf}
 use Rattle.eval.proofs.Write.{write-more}
 use Rattle.eval.proofs.setup.write_scans.Statement.{statement}
 use Rattle.eval.proofs.setup.write_scans.Tie as tie
 
 abbrev Inv : tie.InvT-loop
-Inv n words₀ scans i₀ words i = (i ≤ n) × (length words ≡ length words₀) × (take (scanWords * i) words ≡ wordsOf (take i scans))
+Inv n words₀ scans i₀ words i = (i ≤ n) × (length words ≡ length words₀) × (take (laidWords * i) words ≡ wordsOf (take i scans))
 
 abbrev μ : tie.MeasureT-loop
 μ n words₀ scans i₀ words i = n - i
