@@ -1,6 +1,7 @@
-// Makes cases for crates/answers and the answers to them: queries over small tables, drawn at random, and the rows that 002 yields for
-// every plan that 000 lists (compare/run says how they are built, unchanged, with stand-ins). These are also held to demand 3, read by
-// brute force: the assignments that make every statement a fact. The cases of a seed have each sound order of a query as a case.
+// Makes cases for crates/replay/src/answers.rt and the answers to them: queries over small tables, drawn at random, and the rows that
+// 002 yields for every plan that 000 lists (compare/run says how they are built, unchanged, with stand-ins). These are also held to
+// demand 3, read by brute force: the assignments that make every statement a fact. The cases of a seed have each sound order of a query
+// as a case.
 #[path = "../target/compare/eval.rs"]
 mod eval;
 #[path = "../target/compare/plan.rs"]

@@ -1,6 +1,6 @@
-// Makes cases for crates/evaluations and the answers to them, by a plain reading of document 01: the refusals in its order, and the rows
-// by nested loops over all rows of a table, each row tested. The rows of drawn cases are held to 002 itself too, which knows
-// neither windows nor refusals.
+// Makes cases for crates/replay/src/evaluations.rt and the answers to them, by a plain reading of document 01: the refusals in its
+// order, and the rows by nested loops over all rows of a table, each row tested. The rows of drawn cases are held to 002 itself too,
+// which knows neither windows nor refusals.
 #[path = "../target/compare/eval.rs"]
 mod eval;
 #[path = "../target/compare/plan.rs"]

@@ -1,8 +1,8 @@
-// Makes cases for crates/plans and the answers to them: plans of every kind, and what 001 makes of them (compare/run says how it
-// is built, with a stand-in for `datom`). The check is read off document 01's table (compare/plan_cases.rs), independently of the Rattle;
-// the cost is 001's own wherever it fits a u64 and 001 does not panic, and is summed in 128 bits to know where that is; `next` is
-// 000's own wherever it is not refused. The smaller calls are asked of the scans alone, and of each scan by itself, and answered in the same
-// way; a scan's slots, flow and next are read off 01, and held to 001 and 000 wherever these do not panic.
+// Makes cases for crates/replay_plans/src/plans.rt and the answers to them: plans of every kind, and what 001 makes of them (compare/run
+// says how it is built, with a stand-in for `datom`). The check is read off document 01's table (compare/plan_cases.rs), independently
+// of the Rattle; the cost is 001's own wherever it fits a u64 and 001 does not panic, and is summed in 128 bits to know where that is;
+// `next` is 000's own wherever it is not refused. The smaller calls are asked of the scans alone, and of each scan by itself, and
+// answered in the same way; a scan's slots, flow and next are read off 01, and held to 001 and 000 wherever these do not panic.
 #[path = "../target/compare/plan.rs"]
 mod plan;
 #[path = "../target/compare/planner.rs"]

@@ -1,6 +1,6 @@
-// Makes cases for crates/queries and the answers to them: queries of every kind, and what 000 makes of them (compare/run says how it
-// is built, with stand-ins). What is refused is read off document 01's table, independently of the Rattle; every other query is
-// planned by 000 itself, which also lists its plans and weighs them.
+// Makes cases for crates/replay_plans/src/queries.rt and the answers to them: queries of every kind, and what 000 makes of them
+// (compare/run says how it is built, with stand-ins). What is refused is read off document 01's table, independently of the Rattle;
+// every other query is planned by 000 itself, which also lists its plans and weighs them.
 #[path = "../target/compare/plan.rs"]
 mod plan;
 #[path = "../target/compare/planner.rs"]

@@ -1,6 +1,6 @@
-// Makes cases for crates/searches and the answers to them: queries of every kind, and the first plan of least cost over every sound
-// order, by 005's swaps, 000's plans and 001's costs (compare/run says how it is built, with stand-ins). What is refused is read
-// off document 01's table, independently of the Rattle.
+// Makes cases for crates/replay_plans/src/searches.rt and the answers to them: queries of every kind, and the first plan of least cost
+// over every sound order, by 005's swaps, 000's plans and 001's costs (compare/run says how it is built, with stand-ins). What is
+// refused is read off document 01's table, independently of the Rattle.
 #[path = "../target/compare/permutation.rs"]
 mod permutation;
 #[path = "../target/compare/plan.rs"]

@@ -1,5 +1,5 @@
-// Makes cases for crates/swaps and the answers to them, by the Rust of 005 (compare/run says how it is built). 005 has no capacity: the
-// two refusals are 01's, 40 at 0 for more elements than there is room for.
+// Makes cases for crates/replay_plans/src/swaps.rt and the answers to them, by the Rust of 005 (compare/run says how it is built). 005
+// has no capacity: the two refusals are 01's, 40 at 0 for more elements than there is room for.
 #[path = "../target/compare/permutation.rs"]
 mod permutation;
 

@@ -1,6 +1,7 @@
-// Makes cases for crates/texts and the answers to them: the text of plans with their names, to buffers of several lengths, and names of
-// selects and slots. The answers are read off document 01 here, independently of the Rattle; wherever all names are UTF-8 the text and the
-// name are held to 001's own `Debug` and `get_select_name` (compare/run says how it is built, with a stand-in for `datom`).
+// Makes cases for crates/replay_plans/src/texts.rt and the answers to them: the text of plans with their names, to buffers of several
+// lengths, and names of selects and slots. The answers are read off document 01 here, independently of the Rattle; wherever all names
+// are UTF-8 the text and the name are held to 001's own `Debug` and `get_select_name` (compare/run says how it is built, with a stand-in
+// for `datom`).
 #[path = "../target/compare/plan.rs"]
 mod plan;
 
