@@ -31,7 +31,7 @@ use std::hint::black_box;
 use timing::{median, time};
 
 // A lent slice is a pointer and a length.
-#[link(name = "timed", kind = "static")]
+#[link(name = "bench_calls", kind = "static")]
 extern "C" {
     fn timed_rows(
         text: *const u8, text_length: usize,

@@ -26,7 +26,7 @@ use query_cases::{bound_twice, case, chain, numbers, query_of, Case};
 use std::hint::black_box;
 use timing::{median, time};
 
-#[link(name = "timed", kind = "static")]
+#[link(name = "bench_calls", kind = "static")]
 extern "C" {
     fn timed_search(text: *const u8, text_length: usize) -> u64;
 }

@@ -6,16 +6,16 @@ use Prim.Native.Nat.{ℕ, _+_, _-_, _^_, _<_, min}
 use native.Mathlib.Omega.{arith}
 use lib.ListN.{length, getD}
 use Rattle.refusal.specs.declared.Verdict.the-variants.{Fine}
-use Rattle.asked.specs.declared.Parts.{Parts}
-use Rattle.asked.specs.Parts.{partsOf, itemsOf}
-use Rattle.opening.specs.declared.Opening.{Opening}
-use Rattle.opening.specs.Question.{tablesIn}
-use Rattle.opening.specs.Opening.{openingOf, Opens}
-use Rattle.opening.proofs.Said.{tables-are}
+use Rattle.ask_question.specs.declared.Parts.{Parts}
+use Rattle.ask_question.specs.Parts.{partsOf, itemsOf}
+use Rattle.ask_opening.specs.declared.Opening.{Opening}
+use Rattle.ask_opening.specs.Question.{tablesIn}
+use Rattle.ask_opening.specs.Opening.{openingOf, Opens}
+use Rattle.ask_opening.proofs.Said.{tables-are}
 use Rattle.visits.specs.Visits.{Tables, tablesOf}
-use Rattle.windows.specs.declared.Window.{Window}
-use Rattle.windows.specs.Windows.{Shows}
-use Rattle.windows.proofs.Shown.{falls}
+use Rattle.ask_rows.specs.declared.Window.{Window}
+use Rattle.ask_rows.specs.Windows.{Shows}
+use Rattle.ask_rows.proofs.Shown.{falls}
 use Rattle.ask_answer.specs.declared.Part.{Part}
 use Rattle.ask_answer.specs.Answer.{rowsAsked}
 use Rattle.ask_answer.specs.Parts.{firstPart, partOf, nextPart, Begins, GoesOn}

@@ -8,8 +8,8 @@ use borrow.Author.Tests.{leb-true, lt-ltb, le-ltb}
 use lib.ListN.{length, take, drop}
 use lib.Seq.{take-all, take-append-seam}
 use lib.Dec.{leb, ltb}
-use Rattle.layout.specs.declared.Read.{Read}
-use Rattle.layout.specs.Words.{said, readFrom, over, readOf, wordsAfter}
+use Rattle.ask_numbers.specs.declared.Read.{Read}
+use Rattle.ask_numbers.specs.Words.{said, readFrom, over, readOf, wordsAfter}
 use Rattle.ask_answer.specs.Capacity.{textBytes}
 use Rattle.ask_answer.specs.Answer.{isRead}
 use Rattle.ask_answer.specs.Parts.{numbersIn, wordsRead, Reads}

@@ -9,19 +9,19 @@ use lib.Seq.{sets, sets-eq, length-sets, take-at}
 use Rattle.capacity.specs.Capacity.{maxSelects}
 use Rattle.refusal.specs.declared.Verdict.the-variants.{Fine}
 use Rattle.plan.specs.declared.Plan.{Plan}
-use Rattle.pieces.specs.Written.{largest, after}
+use Rattle.text_pieces.specs.Written.{largest, after}
 use Rattle.visits.specs.Visits.{Tables}
 use Rattle.visits.specs.Window.{filled}
 use Rattle.eval.specs.Evaluation.{evaluationFault}
-use Rattle.layout.specs.Words.{said}
-use Rattle.opening.specs.Question.{tablesIn}
-use Rattle.opening.specs.Opening.{outside, openingOf}
-use Rattle.opening.proofs.Follow.{follows}
-use Rattle.opening.proofs.Nothing.{nothing-outside}
-use Rattle.windows.specs.Windows.{rowsText, shownOf, windowText, shownWindow}
-use Rattle.windows.proofs.InFront.{passed, rows-stay}
-use Rattle.windows.proofs.Shown.{fine-window, fine-rows, fine-out}
-use Rattle.windows.proofs.Joined.{joined, still-numbered}
+use Rattle.ask_numbers.specs.Words.{said}
+use Rattle.ask_opening.specs.Question.{tablesIn}
+use Rattle.ask_opening.specs.Opening.{outside, openingOf}
+use Rattle.ask_opening.proofs.Follow.{follows}
+use Rattle.ask_opening.proofs.Nothing.{nothing-outside}
+use Rattle.ask_rows.specs.Windows.{rowsText, shownOf, windowText, shownWindow}
+use Rattle.ask_rows.proofs.InFront.{passed, rows-stay}
+use Rattle.ask_rows.proofs.Shown.{fine-window, fine-rows, fine-out}
+use Rattle.ask_rows.proofs.Joined.{joined, still-numbered}
 use Rattle.ask_answer.specs.declared.Part.{Part}
 use Rattle.ask_answer.specs.Capacity.{textBytes, wordCount, windowWords}
 use Rattle.ask_answer.specs.Answer.{isRead, firstRow, rowsAsked, answerFor, answerTo}

@@ -4,10 +4,10 @@ use mathlib.Core.Bool.{Bool, cond, _&&_}
 use mathlib.Core.List.{List, [], _++_}
 use lib.ListN.{length, getD}
 use lib.Dec.{leb, ltb}
-use Rattle.layout.specs.Words.{said}
-use Rattle.opening.specs.Question.{tablesIn}
-use Rattle.opening.specs.Opening.{outside, openingOf}
-use Rattle.windows.specs.Windows.{rowsText}
+use Rattle.ask_numbers.specs.Words.{said}
+use Rattle.ask_opening.specs.Question.{tablesIn}
+use Rattle.ask_opening.specs.Opening.{outside, openingOf}
+use Rattle.ask_rows.specs.Windows.{rowsText}
 use Rattle.ask_answer.specs.Capacity.{textBytes, wordCount}
 
 -- "Numbers", "The program's capacities": a text is read where it is shorter than `textBytes`, all of it is in the layout, and there is room

@@ -6,14 +6,14 @@ use mathlib.Core.List.{List, []}
 use lib.ListN.{length}
 use lib.Seq.{sets}
 use lib.Dec.{ltb}
-use Rattle.layout.specs.Words.{said, wordsAfter}
+use Rattle.ask_numbers.specs.Words.{said, wordsAfter}
 use Rattle.refusal.specs.declared.Verdict.the-variants.{Fine}
 use Rattle.plan.specs.declared.Plan.{Plan}
-use Rattle.pieces.specs.Written.{after}
-use Rattle.opening.specs.Question.{tablesIn}
-use Rattle.opening.specs.Opening.{lineBytes, openingOf}
-use Rattle.windows.specs.declared.Window.{Window}
-use Rattle.windows.specs.Windows.{wordBytes, lastBytes, windowOf, rowsAfter, outAfter}
+use Rattle.text_pieces.specs.Written.{after}
+use Rattle.ask_opening.specs.Question.{tablesIn}
+use Rattle.ask_opening.specs.Opening.{lineBytes, openingOf}
+use Rattle.ask_rows.specs.declared.Window.{Window}
+use Rattle.ask_rows.specs.Windows.{wordBytes, lastBytes, windowOf, rowsAfter, outAfter}
 use Rattle.ask_answer.specs.declared.Part.{Part}
 use Rattle.ask_answer.specs.Capacity.{textBytes}
 use Rattle.ask_answer.specs.Answer.{isRead, firstRow, rowsAsked}

@@ -35,7 +35,7 @@ pub fn read_question(text: &[u8], words: &mut [u64]) -> usize
     if TEXT_BYTES <= text.len() {
         return 0;
     }
-    let read = layout::read_words(text, words);
+    let read = ask_numbers::read_words(text, words);
     read.count
 }
 
@@ -43,10 +43,10 @@ pub fn read_question(text: &[u8], words: &mut [u64]) -> usize
 pub fn begin(words: &[u64], out: &mut [u8]) -> Part
     ensures { λ r. ⌜ Begins (now (words .entry)) (now (out .entry)) r (now (out .exit)) ⌝ }
 {
-    let opening = opening::open(words, out);
+    let opening = ask_opening::open(words, out);
     let plan = opening.plan;
-    let from = asked::word_at(words, asked::FROM);
-    let most = asked::word_at(words, asked::MOST);
+    let from = ask_question::word_at(words, ask_question::FROM);
+    let most = ask_question::word_at(words, ask_question::MOST);
     Part {
         verdict: Verdict::Fine,
         length: opening.length,
@@ -73,12 +73,12 @@ fn with_numbers(from: u64, most: u64) -> u64
 pub fn go_on(words: &[u64], part: Part, rows: &mut [u64], out: &mut [u8]) -> Part
     ensures { λ r. ⌜ GoesOn (now (words .entry)) part (now (rows .entry)) (now (out .entry)) r (now (rows .exit)) (now (out .exit)) ⌝ }
 {
-    let parts = asked::find_parts(words);
-    let aevt = asked::items(words, parts.aevt);
-    let avet = asked::items(words, parts.avet);
-    let eavt = asked::items(words, parts.eavt);
+    let parts = ask_question::find_parts(words);
+    let aevt = ask_question::items(words, parts.aevt);
+    let avet = ask_question::items(words, parts.avet);
+    let eavt = ask_question::items(words, parts.eavt);
     let plan = part.plan;
-    let window = windows::show(plan, aevt, avet, eavt, part.from, part.left, rows, out);
+    let window = ask_rows::show(plan, aevt, avet, eavt, part.from, part.left, rows, out);
     let verdict = window.verdict;
     Part {
         verdict,

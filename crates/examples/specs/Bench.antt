@@ -7,7 +7,7 @@ use Rattle.lists.specs.Padded.{padded}
 use Rattle.query.specs.declared.QueryValue.the-variants.{Const, Var as Variable}
 use Rattle.query.specs.declared.Statement.{Statement}
 use Rattle.query.specs.declared.Query.{Query}
-use Rattle.lent.specs.Lent.{readStatements, readSelects, queryOf}
+use Rattle.planner_lent.specs.Lent.{readStatements, readSelects, queryOf}
 use Rattle.plan.specs.declared.Scan.{Scan}
 use Rattle.plan.specs.declared.SlotRecord.{SlotRecord}
 use Rattle.plan.specs.declared.SlotDefinition.the-variants.{Constant}

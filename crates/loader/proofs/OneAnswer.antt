@@ -11,9 +11,9 @@ use Rattle.plan_check.specs.Check.{checkOf}
 use Rattle.tables.specs.Check.{tablesFault}
 use Rattle.visits.specs.Visits.{Tables}
 use Rattle.eval.specs.Evaluation.{evaluateOf, bufferAfter}
-use Rattle.plan_names.specs.Names.{selectNameFault}
+use Rattle.text_names.specs.Names.{selectNameFault}
 use Rattle.plan_text.specs.Answer.{formattedOf, bufferAfter as textAfter}
-use Rattle.words.specs.Words.{planOfWords}
+use Rattle.loader_words.specs.Words.{planOfWords}
 use Rattle.loader.specs.Answers.{numberOf, answerOf, bit, planAfter, steppedAfter, orderAfter, stateAfter, swapAfter, plannedOf, foundOf, steppedOf, swappedOf, evaluatedWords, formattedWords, nameWords}
 
 -- a call returns r and leaves a in its answer; and b in a buffer; and c in another

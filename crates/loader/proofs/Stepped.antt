@@ -18,10 +18,10 @@ use Rattle.plan.specs.Plan.{zeroScan, scansOf, countsFault, flowsFault}
 use Rattle.plan.proofs.Counts.{counts-fine, out-out-each}
 use Rattle.listing.specs.Next.{isNewIndex, nextScans, withScans, nextOf}
 use Rattle.listing.proofs.NextLists.{next-length, with-scans}
-use Rattle.words.specs.Words.{word, planWords, scanAt, planOfWords}
-use Rattle.plan_words.specs.Write.{indexAt, withIndexes}
-use Rattle.plan_words.proofs.Indexes.{indexes-other}
-use Rattle.plan_words.proofs.Stepped.{SameButIndex, indexes-say}
+use Rattle.loader_words.specs.Words.{word, planWords, scanAt, planOfWords}
+use Rattle.loader_plan_words.specs.Write.{indexAt, withIndexes}
+use Rattle.loader_plan_words.proofs.Indexes.{indexes-other}
+use Rattle.loader_plan_words.proofs.Stepped.{SameButIndex, indexes-say}
 use Rattle.loader.specs.Answers.{steppedAfter, steppedOf}
 
 -- a stepped scan differs in the index at most

@@ -12,9 +12,9 @@ use Rattle.permutation.specs.declared.Permutations.{Permutations}
 use Rattle.permutation.specs.declared.Swap.{Swap}
 use Rattle.permutation.specs.declared.Step.{Step}
 use Rattle.permutation.specs.Swaps.{nextOf as stepOf}
-use Rattle.swap_words.specs.State.{stateOfWords, wordsOfState}
-use Rattle.words.specs.Words.{planOfWords, queryOfWords}
-use Rattle.plan_words.specs.Write.{wordsOfPlan, withIndexes}
+use Rattle.loader_swap_words.specs.State.{stateOfWords, wordsOfState}
+use Rattle.loader_words.specs.Words.{planOfWords, queryOfWords}
+use Rattle.loader_plan_words.specs.Write.{wordsOfPlan, withIndexes}
 use Rattle.planner.specs.declared.Planned.{Planned}
 use Rattle.planner.specs.Planning.{planOf}
 use Rattle.search.specs.declared.Found.{Found}
@@ -22,7 +22,7 @@ use Rattle.search.specs.Search.{searchOf}
 use Rattle.listing.specs.declared.NextPlan.{NextPlan}
 use Rattle.listing.specs.Next.{nextOf}
 use Rattle.eval.specs.declared.Evaluated.{Evaluated}
-use Rattle.plan_names.specs.Names.{selectNameFault, selectNameOf}
+use Rattle.text_names.specs.Names.{selectNameFault, selectNameOf}
 use Rattle.plan_text.specs.declared.Formatted.{Formatted}
 
 -- the number of a refusal, 0 where there is none; its place

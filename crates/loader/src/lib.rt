@@ -1,15 +1,15 @@
-// The public calls as C functions, for the bootloader; loader/loader.h is their header. Plans and queries are words (crates `words` and `plan_words`), and so are
-// swap states (crate `swap_words`).
+// The public calls as C functions, for the bootloader; loader/loader.h is their header. Plans and queries are words (crates `loader_words` and `plan_words`), and so are
+// swap states (crate `loader_swap_words`).
 //
 // Each call answers the refusal's number, 0 where there is none, and writes the whole answer into the four words that are lent for it:
 // the number, the place, and two more that each call names (0 where it has none, or where it is refused). A refused call writes
 // nothing else.
 use capacity::MAX_SEARCHED;
+use loader_swap_words::STATE_WORDS;
+use loader_words::PLAN_WORDS;
+use loader_words::QUERY_WORDS;
 use permutation::Permutations;
 use refusal::Verdict;
-use swap_words::STATE_WORDS;
-use words::PLAN_WORDS;
-use words::QUERY_WORDS;
 ghost use mathlib.Core.Path.{_≡_};
 ghost use lib.ListN.{length};
 ghost use Rattle.visits.specs.Visits.{tablesOf};
@@ -17,10 +17,10 @@ ghost use Rattle.cost.specs.Cost.{costOf};
 ghost use Rattle.plan_check.specs.Check.{checkOf};
 ghost use Rattle.tables.specs.Check.{tablesFault};
 ghost use Rattle.eval.specs.Evaluation.{evaluateOf, bufferAfter};
-ghost use Rattle.plan_names.specs.Names.{selectNameFault};
+ghost use Rattle.text_names.specs.Names.{selectNameFault};
 ghost use Rattle.plan_text.specs.Answer.{formattedOf, bufferAfter as textAfter};
 ghost use Rattle.permutation.specs.Swaps.{freshOf};
-ghost use Rattle.words.specs.Words.{planOfWords};
+ghost use Rattle.loader_words.specs.Words.{planOfWords};
 ghost use Rattle.loader.specs.Answers.{numberOf, placeOf, answerOf, bit, planAfter, steppedAfter, orderAfter, stateAfter, swapAfter, plannedOf, foundOf, steppedOf, swappedOf, evaluatedWords, formattedWords, nameWords};
 
 // Where each part of an answer stands, and how many words it has.
@@ -48,14 +48,14 @@ pub extern "C" fn loader_plan(
     ensures { λ r. ⌜ now (answer .exit) ≡ answerOf (plannedOf (now (query .entry)) .verdict) 0 0 ⌝ }
     ensures { λ r. ⌜ now (plan .exit) ≡ planAfter (plannedOf (now (query .entry)) .verdict) (plannedOf (now (query .entry)) .plan) (now (plan .entry)) ⌝ }
 {
-    let planned = lent::plan_query(words::read_query(query));
+    let planned = planner_lent::plan_query(loader_words::read_query(query));
     let verdict = planned.verdict;
     *answer = answer_of(verdict, 0, 0);
     if let Verdict::Refused(_) = verdict {
         return number_of(verdict);
     }
     let found = planned.plan;
-    *plan = plan_words::words_of_plan(found);
+    *plan = loader_plan_words::words_of_plan(found);
     0
 }
 
@@ -72,7 +72,7 @@ pub extern "C" fn loader_search(
     ensures { λ r. ⌜ now (order .exit) ≡ orderAfter (foundOf (now (query .entry)) .verdict) (foundOf (now (query .entry)) .order) (now (order .entry)) ⌝ }
     ensures { λ r. ⌜ now (plan .exit) ≡ planAfter (foundOf (now (query .entry)) .verdict) (foundOf (now (query .entry)) .plan) (now (plan .entry)) ⌝ }
 {
-    let found = lent_search::search_query(words::read_query(query));
+    let found = search_lent::search_query(loader_words::read_query(query));
     let verdict = found.verdict;
     *answer = answer_of(verdict, found.cost, 0);
     if let Verdict::Refused(_) = verdict {
@@ -81,7 +81,7 @@ pub extern "C" fn loader_search(
     let cheapest = found.plan;
     let arranged = found.order;
     *order = arranged;
-    *plan = plan_words::words_of_plan(cheapest);
+    *plan = loader_plan_words::words_of_plan(cheapest);
     0
 }
 
@@ -93,7 +93,7 @@ pub extern "C" fn loader_next(plan: &mut [u64; PLAN_WORDS], answer: &mut [u64; A
     ensures { λ r. ⌜ now (answer .exit) ≡ answerOf (steppedOf (now (plan .entry)) .verdict) (bit (steppedOf (now (plan .entry)) .«is_new»)) 0 ⌝ }
     ensures { λ r. ⌜ now (plan .exit) ≡ steppedAfter (steppedOf (now (plan .entry))) (now (plan .entry)) ⌝ }
 {
-    let stepped = listing::next(words::read_plan(plan));
+    let stepped = listing::next(loader_words::read_plan(plan));
     let verdict = stepped.verdict;
     *answer = answer_of(verdict, bit_of(stepped.is_new), 0);
     if let Verdict::Refused(_) = verdict {
@@ -101,7 +101,7 @@ pub extern "C" fn loader_next(plan: &mut [u64; PLAN_WORDS], answer: &mut [u64; A
     }
     let next = stepped.plan;
     let scans = next.scans;
-    plan_words::write_indexes(scans, next.scan_count, plan);
+    loader_plan_words::write_indexes(scans, next.scan_count, plan);
     0
 }
 
@@ -111,7 +111,7 @@ pub extern "C" fn loader_check(plan: &[u64; PLAN_WORDS], answer: &mut [u64; ANSW
     ensures { λ r. ⌜ r ≡ numberOf (checkOf (planOfWords (now (plan .entry)))) ⌝ }
     ensures { λ r. ⌜ now (answer .exit) ≡ answerOf (checkOf (planOfWords (now (plan .entry)))) 0 0 ⌝ }
 {
-    let verdict = plan_check::check_invariants(words::read_plan(plan));
+    let verdict = plan_check::check_invariants(loader_words::read_plan(plan));
     *answer = answer_of(verdict, 0, 0);
     number_of(verdict)
 }
@@ -122,7 +122,7 @@ pub extern "C" fn loader_cost(plan: &[u64; PLAN_WORDS], answer: &mut [u64; ANSWE
     ensures { λ r. ⌜ r ≡ numberOf (costOf (planOfWords (now (plan .entry))) .verdict) ⌝ }
     ensures { λ r. ⌜ now (answer .exit) ≡ answerOf (costOf (planOfWords (now (plan .entry))) .verdict) (costOf (planOfWords (now (plan .entry))) .cost) 0 ⌝ }
 {
-    let costed = cost::cost(words::read_plan(plan));
+    let costed = cost::cost(loader_words::read_plan(plan));
     let verdict = costed.verdict;
     *answer = answer_of(verdict, costed.cost, 0);
     number_of(verdict)
@@ -160,7 +160,7 @@ pub extern "C" fn loader_evaluate<'a>(
     ensures { λ r. ⌜ now (answer .exit) ≡ evaluatedWords (evaluateOf (planOfWords (now (plan .entry))) (tablesOf (now (aevt .entry)) (now (avet .entry)) (now (eavt .entry))) from (length (now (rows .entry)))) ⌝ }
     ensures { λ r. ⌜ now (rows .exit) ≡ bufferAfter (planOfWords (now (plan .entry))) (tablesOf (now (aevt .entry)) (now (avet .entry)) (now (eavt .entry))) from (now (rows .entry)) ⌝ }
 {
-    let read = words::read_plan(plan);
+    let read = loader_words::read_plan(plan);
     let evaluated = eval::evaluate(read, aevt, avet, eavt, from, rows);
     let verdict = evaluated.verdict;
     *answer = answer_of(verdict, evaluated.count as u64, bit_of(evaluated.more));
@@ -180,7 +180,7 @@ pub extern "C" fn loader_text(
     ensures { λ r. ⌜ now (answer .exit) ≡ formattedWords (formattedOf (planOfWords (now (plan .entry))) (now (names .entry)) (now (ends .entry)) (length (now (out .entry)))) ⌝ }
     ensures { λ r. ⌜ now (out .exit) ≡ textAfter (planOfWords (now (plan .entry))) (now (names .entry)) (now (ends .entry)) (now (out .entry)) ⌝ }
 {
-    let read = words::read_plan(plan);
+    let read = loader_words::read_plan(plan);
     let formatted = plan_text::fmt(read, names, ends, out);
     let verdict = formatted.verdict;
     *answer = answer_of(verdict, formatted.length as u64, 0);
@@ -199,9 +199,9 @@ pub extern "C" fn loader_select_name<'a>(
     ensures { λ r. ⌜ r ≡ numberOf (selectNameFault (planOfWords (now (plan .entry))) (now (names .entry)) (now (ends .entry)) index) ⌝ }
     ensures { λ r. ⌜ now (answer .exit) ≡ nameWords (planOfWords (now (plan .entry))) (now (names .entry)) (now (ends .entry)) index ⌝ }
 {
-    let read = words::read_plan(plan);
-    let verdict = plan_names::check_select_name(read, names, ends, index);
-    let name = plan_names::get_select_name(read, names, ends, index);
+    let read = loader_words::read_plan(plan);
+    let verdict = text_names::check_select_name(read, names, ends, index);
+    let name = text_names::get_select_name(read, names, ends, index);
     *answer = answer_of(verdict, name.len() as u64, 0);
     number_of(verdict)
 }
@@ -224,7 +224,7 @@ pub extern "C" fn loader_permutations(
         return number_of(verdict);
     }
     let started = fresh.state;
-    *state = swap_words::words_of_state(started);
+    *state = loader_swap_words::words_of_state(started);
     0
 }
 
@@ -241,7 +241,7 @@ pub extern "C" fn loader_next_swap(
     ensures { λ r. ⌜ now (swap .exit) ≡ swapAfter (swappedOf (now (state .entry)) .next .verdict) (swappedOf (now (state .entry)) .next .swap) (now (swap .entry)) ⌝ }
     ensures { λ r. ⌜ now (state .exit) ≡ stateAfter (swappedOf (now (state .entry)) .next .verdict) (swappedOf (now (state .entry)) .state) (now (state .entry)) ⌝ }
 {
-    let step = swap_words::read_state(state).next_value();
+    let step = loader_swap_words::read_state(state).next_value();
     let next = step.next;
     let verdict = next.verdict;
     *answer = answer_of(verdict, bit_of(next.is_some), 0);
@@ -251,7 +251,7 @@ pub extern "C" fn loader_next_swap(
     let positions = next.swap;
     *swap = [positions.0 as u64, positions.1 as u64];
     let after = step.state;
-    *state = swap_words::words_of_state(after);
+    *state = loader_swap_words::words_of_state(after);
     0
 }
 

@@ -27,7 +27,7 @@ use Rattle.plan_check.specs.Check.{checkOf}
 use Rattle.planner.specs.Planning.{planFor, planOf}
 use Rattle.planner.proofs.Accepted.{query-fits}
 use Rattle.planned.proofs.Passes.{query-fine, bound-fine, plan-there}
-use Rattle.lent.specs.Lent.{readStatements, readSelects, queryOf, planLent}
+use Rattle.planner_lent.specs.Lent.{readStatements, readSelects, queryOf, planLent}
 use Rattle.search.specs.Search.{arranged, arrangedQuery, searchOf}
 use Rattle.search.proofs.Arranged.{arranged-all}
 use Rattle.search.proofs.Fresh.{fresh-plan}

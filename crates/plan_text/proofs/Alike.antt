@@ -12,10 +12,10 @@ use Rattle.plan.specs.declared.Scan.{Scan}
 use Rattle.plan.specs.declared.SlotRecord.{SlotRecord}
 use Rattle.plan.specs.declared.Plan.{Plan}
 use Rattle.plan.specs.Plan.{firstSlot, secondSlot, scansOf, slotsOf, selectsOf, SamePlan}
-use Rattle.pieces.specs.Ascii.{ascii}
-use Rattle.pieces.specs.Decimal.{decimal}
-use Rattle.plan_names.specs.Names.{nameStart, nameOf, constantAt}
-use Rattle.scan_text.specs.Line.{shownName, slotText, scanLine}
+use Rattle.text_pieces.specs.Ascii.{ascii}
+use Rattle.text_pieces.specs.Decimal.{decimal}
+use Rattle.text_names.specs.Names.{nameStart, nameOf, constantAt}
+use Rattle.text_scan.specs.Line.{shownName, slotText, scanLine}
 use Rattle.plan_text.specs.Text.{scanLines, joined, selectsText, textOf}
 
 -- past the ends there is no name

@@ -13,8 +13,8 @@ use Rattle.refusal.specs.declared.Refusal.{Refusal}
 use Rattle.refusal.specs.Verdict.{refused, unless}
 use Rattle.refusal.proofs.Fine.{refuse-fine, or-fine}
 use Rattle.plan.specs.declared.Plan.{Plan}
-use Rattle.pieces.specs.Written.{largest, Written}
-use Rattle.plan_names.specs.Names.{namesFault}
+use Rattle.text_pieces.specs.Written.{largest, Written}
+use Rattle.text_names.specs.Names.{namesFault}
 use Rattle.plan_text.specs.declared.Formatted.{Formatted}
 use Rattle.plan_text.specs.Text.{textOf}
 use Rattle.plan_text.specs.Answer.{textFault, formattedOf, bufferAfter}

@@ -6,10 +6,10 @@ use Rattle.plan.specs.declared.Plan.{Plan}
 use Rattle.plan.specs.declared.Index.the-variants.{Aevt, Avet}
 use Rattle.plan.specs.declared.Flow.the-variants.{OutOut, InOut, InIn}
 use Rattle.plan.specs.Plan.{variableSlot}
-use Rattle.pieces.specs.Ascii.{ascii}
-use Rattle.pieces.specs.Decimal.{digitsWithin, decimal}
-use Rattle.plan_names.specs.Names.{nameOf}
-use Rattle.scan_text.specs.Line.{slotText, flowLine, scanLine}
+use Rattle.text_pieces.specs.Ascii.{ascii}
+use Rattle.text_pieces.specs.Decimal.{digitsWithin, decimal}
+use Rattle.text_names.specs.Names.{nameOf}
+use Rattle.text_scan.specs.Line.{slotText, flowLine, scanLine}
 use Rattle.plan_text.specs.Text.{constantLine, constantLines, scanLines, joined, selectsText, textOf}
 
 -- E's plan

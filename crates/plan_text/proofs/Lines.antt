@@ -11,8 +11,8 @@ use Rattle.plan.specs.declared.Slot.{Slot}
 use Rattle.plan.specs.declared.Scan.{Scan}
 use Rattle.plan.specs.declared.SlotRecord.{SlotRecord}
 use Rattle.plan.specs.Plan.{variableSlot, zeroScan, zeroSlot}
-use Rattle.pieces.specs.Ascii.{ascii}
-use Rattle.scan_text.specs.Line.{slotText, scanLine}
+use Rattle.text_pieces.specs.Ascii.{ascii}
+use Rattle.text_scan.specs.Line.{slotText, scanLine}
 use Rattle.plan_text.specs.Text.{constantLine, constantLines, scanLines, joined, separator, selectsText}
 
 -- constants, with one slot more behind them

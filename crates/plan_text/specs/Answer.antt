@@ -7,7 +7,7 @@ use Rattle.refusal.specs.declared.Verdict.{Verdict}
 use Rattle.refusal.specs.declared.Verdict.the-variants.{Fine}
 use Rattle.refusal.specs.Verdict.{refuseIf, orElse, unless}
 use Rattle.plan.specs.declared.Plan.{Plan}
-use Rattle.plan_names.specs.Names.{namesFault}
+use Rattle.text_names.specs.Names.{namesFault}
 use Rattle.plan_text.specs.declared.Formatted.{Formatted}
 use Rattle.plan_text.specs.Text.{textOf}
 

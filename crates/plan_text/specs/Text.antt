@@ -8,9 +8,9 @@ use Rattle.plan.specs.declared.SlotDefinition.{SlotDefinition}
 use Rattle.plan.specs.declared.SlotDefinition.the-variants.{Variable, Constant}
 use Rattle.plan.specs.declared.Plan.{Plan}
 use Rattle.plan.specs.Plan.{scansOf, slotsOf, selectsOf}
-use Rattle.pieces.specs.Ascii.{ascii}
-use Rattle.pieces.specs.Decimal.{decimal}
-use Rattle.scan_text.specs.Line.{slotText, scanLine}
+use Rattle.text_pieces.specs.Ascii.{ascii}
+use Rattle.text_pieces.specs.Decimal.{decimal}
+use Rattle.text_scan.specs.Line.{slotText, scanLine}
 
 -- a constant in slot k, in decimal; variables have no such line
 unfoldable pub constantLine : ℕ → SlotDefinition → List ℕ

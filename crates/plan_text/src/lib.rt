@@ -10,8 +10,6 @@
 use capacity::MAX_SCANS;
 use capacity::MAX_SELECTS;
 use capacity::MAX_SLOTS;
-use pieces::write;
-use pieces::write_decimal;
 use plan::Plan;
 use plan::Scan;
 use plan::Slot;
@@ -19,13 +17,15 @@ use plan::SlotDefinition;
 use plan::SlotRecord;
 use refusal::Verdict;
 use refusal::refuse;
-use scan_text::write_scan;
-use scan_text::write_slot;
+use text_pieces::write;
+use text_pieces::write_decimal;
+use text_scan::write_scan;
+use text_scan::write_slot;
 ghost use mathlib.Core.Path.{_≡_};
 ghost use Prim.Native.Nat.{_≤_};
 ghost use lib.ListN.{length, take};
 ghost use Rattle.capacity.specs.Capacity.{maxScans, maxSlots, maxSelects};
-ghost use Rattle.pieces.specs.Written.{Written};
+ghost use Rattle.text_pieces.specs.Written.{Written};
 ghost use Rattle.plan.specs.declared.SlotDefinition.the-variants.{Constant};
 ghost use Rattle.plan.specs.Plan.{Counted};
 ghost use Rattle.plan_text.specs.Text.{constantLine, constantLines, scanLines, separator, selectsText, textOf};
@@ -55,7 +55,7 @@ pub fn fmt(plan: Plan, names: &[u8], ends: &[usize], out: &mut [u8]) -> Formatte
 pub fn measure(plan: Plan, names: &[u8], ends: &[usize], out: &[u8]) -> Formatted
     ensures { λ r. ⌜ r ≡ formattedOf plan (now (names .entry)) (now (ends .entry)) (length (now (out .entry))) ⌝ }
 {
-    let checked = plan_names::check_names(plan, names, ends);
+    let checked = text_names::check_names(plan, names, ends);
     if let Verdict::Refused(_) = checked {
         return Formatted {
             verdict: checked,

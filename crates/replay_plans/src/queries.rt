@@ -18,7 +18,7 @@ ghost use mathlib.Core.Path.{_≡_};
 ghost use Prim.Native.Nat.{_+_, _≤_};
 ghost use lib.ListN.{take};
 ghost use Rattle.capacity.specs.Capacity.{maxStatements, maxSelects};
-ghost use Rattle.lent.specs.Lent.{planLent};
+ghost use Rattle.planner_lent.specs.Lent.{planLent};
 
 // How many plans are listed at the most, and up to how many scans the cost is asked.
 const LISTED: usize = 500;
@@ -103,7 +103,7 @@ fn planned_of(query: Query) -> Planned {
             );
         }
     }
-    lent::plan_query(query)
+    planner_lent::plan_query(query)
 }
 
 fn lend(
@@ -116,7 +116,7 @@ fn lend(
     requires { ⌜ count ≤ maxStatements + 1 ⌝ ∗ ⌜ «select_count» ≤ maxSelects ⌝ }
     ensures { λ r. ⌜ r ≡ planLent «variable_count» (take count statements) (take «select_count» select) ⌝ }
 {
-    lent::plan(
+    planner_lent::plan(
         variable_count,
         &statements[..count],
         &select[..select_count],

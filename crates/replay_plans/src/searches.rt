@@ -13,7 +13,7 @@ use search::Found;
 pub fn put_case(text: &[u8], start: usize) -> usize {
     let reading = given::read_query(text, start);
     let query = reading.query;
-    let found = lent_search::search_query(query);
+    let found = search_lent::search_query(query);
     put_found(found);
     reading.next
 }

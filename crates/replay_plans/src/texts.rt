@@ -76,8 +76,8 @@ fn put_bytes(bytes: &[u8]) {
 // The name of a select, by both calls.
 fn show_name(plan: Plan, names: &[u8], ends: &[usize], index: usize) {
     put(b"name ");
-    put_verdict(plan_names::check_select_name(plan, names, ends, index));
-    put_bytes(plan_names::get_select_name(plan, names, ends, index));
+    put_verdict(text_names::check_select_name(plan, names, ends, index));
+    put_bytes(text_names::get_select_name(plan, names, ends, index));
 }
 
 // The text written to a buffer, and the buffer after it.
@@ -140,13 +140,13 @@ fn show_slots(text: &[u8], start: usize, plan: Plan, names: &[u8], ends: &[usize
 fn show_slot(plan: Plan, names: &[u8], ends: &[usize], slot: Slot) {
     let slots = plan.slots;
     put(b"slot ");
-    put_verdict(plan_names::check_names(plan, names, ends));
-    if plan_names::is_constant(slots, plan.slot_count, slot) {
+    put_verdict(text_names::check_names(plan, names, ends));
+    if text_names::is_constant(slots, plan.slot_count, slot) {
         put(b", constant");
     } else {
         put(b", variable");
     }
-    put_bytes(plan_names::get_name(slot, names, ends));
+    put_bytes(text_names::get_name(slot, names, ends));
 }
 
 fn read_names(text: &[u8], start: usize, names: &mut [u8]) -> Counted

@@ -1,6 +1,6 @@
 -- `fmt` meets its contract: refused, nothing is written; the text that was measured is the text that is written.
 use mathlib.Core.Path.{sym, _∙_}
-use Rattle.plan_names.proofs.Fine.{names-fine}
+use Rattle.text_names.proofs.Fine.{names-fine}
 use Rattle.plan_text.proofs.Answers.{fault-is, text-fits, after-refused, after-fits}
 use borrow.Author.Needs.{needs}
 use Rattle.plan_text.proofs.fmt.Statement.{statement}

@@ -1,7 +1,7 @@
 -- `measure` meets its contract: what was counted on no bytes is the length of the text.
 use mathlib.Core.Path.{sym, _∙_}
 use native.Mathlib.Omega.{arith}
-use Rattle.plan_names.proofs.Fine.{names-fine}
+use Rattle.text_names.proofs.Fine.{names-fine}
 use Rattle.plan_text.proofs.Answers.{measured-refused, measured-short, measured-fits}
 use borrow.Author.Needs.{needs}
 use Rattle.plan_text.proofs.measure.Statement.{statement}

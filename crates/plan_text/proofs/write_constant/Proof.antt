@@ -1,6 +1,6 @@
 -- `write_constant` meets its contract, piece by piece.
 use borrow.Author.Needs.{needs}
-use Rattle.pieces.proofs.Written.{written-then, written-length}
+use Rattle.text_pieces.proofs.Written.{written-then, written-length}
 use Rattle.plan_text.specs.Text.{constantLine}
 use Rattle.plan_text.proofs.write_constant.Statement.{statement}
 use Rattle.plan_text.proofs.write_constant.Tie as tie

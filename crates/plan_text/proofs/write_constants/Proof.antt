@@ -5,8 +5,8 @@ use native.Mathlib.Omega.{arith}
 use borrow.Author.Needs.{needs}
 use lib.ListN.{length, take}
 use Rattle.capacity.specs.Capacity.{maxSlots}
-use Rattle.pieces.specs.Written.{Written}
-use Rattle.pieces.proofs.Written.{written-none, written-then, written-length}
+use Rattle.text_pieces.specs.Written.{Written}
+use Rattle.text_pieces.proofs.Written.{written-none, written-then, written-length}
 use Rattle.plan_text.specs.Text.{constantLines}
 use Rattle.plan_text.proofs.Lines.{constants-next}
 use Rattle.plan_text.proofs.write_constants.Statement.{statement}

@@ -1,7 +1,7 @@
 -- `write_definition` meets its contract: nothing for a variable, else the constant's line.
 use native.Mathlib.Omega.{arith}
 use borrow.Author.Needs.{needs}
-use Rattle.pieces.proofs.Written.{written-none}
+use Rattle.text_pieces.proofs.Written.{written-none}
 use Rattle.plan_text.specs.Text.{constantLine}
 use Rattle.plan_text.proofs.write_definition.Statement.{statement}
 use Rattle.plan_text.proofs.write_definition.Tie as tie

@@ -1,6 +1,6 @@
 -- `write_plan` meets its contract, part by part.
 use borrow.Author.Needs.{needs}
-use Rattle.pieces.proofs.Written.{written-then}
+use Rattle.text_pieces.proofs.Written.{written-then}
 use Rattle.plan_text.specs.Text.{textOf}
 use Rattle.plan_text.proofs.write_plan.Statement.{statement}
 use Rattle.plan_text.proofs.write_plan.Tie as tie

@@ -5,8 +5,8 @@ use native.Mathlib.Omega.{arith}
 use borrow.Author.Needs.{needs}
 use lib.ListN.{length, take}
 use Rattle.capacity.specs.Capacity.{maxScans}
-use Rattle.pieces.specs.Written.{Written}
-use Rattle.pieces.proofs.Written.{written-none, written-then, written-length}
+use Rattle.text_pieces.specs.Written.{Written}
+use Rattle.text_pieces.proofs.Written.{written-none, written-then, written-length}
 use Rattle.plan_text.specs.Text.{scanLines}
 use Rattle.plan_text.proofs.Lines.{scans-next}
 use Rattle.plan_text.proofs.write_scans.Statement.{statement}

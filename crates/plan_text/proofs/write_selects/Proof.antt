@@ -5,8 +5,8 @@ use native.Mathlib.Omega.{arith}
 use borrow.Author.Needs.{needs}
 use lib.ListN.{length, take}
 use Rattle.capacity.specs.Capacity.{maxSelects}
-use Rattle.pieces.specs.Written.{Written}
-use Rattle.pieces.proofs.Written.{written-none, written-then, written-length}
+use Rattle.text_pieces.specs.Written.{Written}
+use Rattle.text_pieces.proofs.Written.{written-none, written-then, written-length}
 use Rattle.plan_text.specs.Text.{joined, selectsText}
 use Rattle.plan_text.proofs.Lines.{selects-next}
 use Rattle.plan_text.proofs.write_selects.Statement.{statement}

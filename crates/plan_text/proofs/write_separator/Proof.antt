@@ -1,7 +1,7 @@
 -- `write_separator` meets its contract: before the first select stands nothing.
 use native.Mathlib.Omega.{arith}
 use borrow.Author.Needs.{needs}
-use Rattle.pieces.proofs.Written.{written-none}
+use Rattle.text_pieces.proofs.Written.{written-none}
 use Rattle.plan_text.proofs.Lines.{separator-past}
 use Rattle.plan_text.proofs.write_separator.Statement.{statement}
 use Rattle.plan_text.proofs.write_separator.Tie as tie

@@ -6,11 +6,11 @@ use contract.Running.{givenOf, tables, tablesOf}
 use denote.Triple.Spec.{tripleOf}
 use denote.Triple.Table.{entered, cited}
 use Rattle.capacity.specs.Capacity.{maxStatements, maxSelects}
-use Rattle.lent.proofs.Lender.{Sized, Lent, lender-meets}
-use Rattle.lent.proofs.Planning.{planning}
-use Rattle.lent.proofs.plan.Symbol as plan-def
-use Rattle.lent.proofs.plan.Symbol.{name as #plan}
-use Rattle.lent.proofs.plan.Met as plan-thm
+use Rattle.planner_lent.proofs.Lender.{Sized, Lent, lender-meets}
+use Rattle.planner_lent.proofs.Planning.{planning}
+use Rattle.planner_lent.proofs.plan.Symbol as plan-def
+use Rattle.planner_lent.proofs.plan.Symbol.{name as #plan}
+use Rattle.planner_lent.proofs.plan.Met as plan-thm
 use Rattle.replay_plans.proofs.queries.lend.Key.{name as #lend}
 use Rattle.replay_plans.proofs.queries.lend as lender
 use Rattle.replay_plans.proofs.queries.lend.Statement as stated

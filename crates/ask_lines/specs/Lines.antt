@@ -1,0 +1,28 @@
+-- docs/LAYOUT.md, "What it writes": a refusal, the cost, and rows.
+use Prim.Native.Nat.{ℕ, _-_}
+use mathlib.Core.Bool.{cond}
+use mathlib.Core.List.{List, [], _∷_, _++_}
+use lib.Dec.{leb}
+use Rattle.text_pieces.specs.Ascii.{ascii}
+use Rattle.text_pieces.specs.Decimal.{decimal}
+
+-- a refusal is its number and its place
+unfoldable pub refusalLine : ℕ → ℕ → List ℕ
+refusalLine number place = ascii "refused " ++ decimal number ++ ascii " at " ++ decimal place ++ ascii "\n"
+
+-- the cost stands on a line of its own, after the last line of the plan text
+unfoldable pub costLine : ℕ → List ℕ
+costLine cost = ascii "\ncost " ++ decimal cost ++ ascii "\n"
+
+-- a word of a row, and how many words of the row are left with it: a line feed follows the last, a space every other
+unfoldable pub wordText : ℕ → ℕ → List ℕ
+wordText word left = decimal word ++ cond (leb left 1) (ascii "\n") (ascii " ")
+
+-- how many words of a row are left after one
+unfoldable pub leftAfter : ℕ → ℕ → ℕ
+leftAfter left width = cond (leb left 1) width (left - 1)
+
+-- rows of `width` words, a line each; of the first row `left` words are left
+unfoldable pub rowLines : ℕ → ℕ → List ℕ → List ℕ
+rowLines width left [] = []
+rowLines width left (w ∷ ws) = wordText w left ++ rowLines width (leftAfter left width) ws

@@ -1,0 +1,41 @@
+-- `are_bytes` meets its contract: what is left from word i on gives the answer of the whole.
+use mathlib.Core.Path.{_≡_, refl, sym, _∙_}
+use Prim.Native.Nat.{_≤_, _-_}
+use native.Mathlib.Omega.{arith}
+use lib.ListN.{length, drop}
+use Rattle.ask_question.specs.Parts.{areBytes}
+use Rattle.ask_question.proofs.Found.{bytes-end, bytes-no, bytes-on}
+use borrow.Author.Needs.{needs}
+use Rattle.ask_question.proofs.are_bytes.Statement.{statement}
+use Rattle.ask_question.proofs.are_bytes.Tie as tie
+
+abbrev Inv : tie.InvT-loop
+Inv words i₀ i = (i ≤ length words) × (areBytes words ≡ areBytes (drop i words))
+
+abbrev μ : tie.MeasureT-loop
+μ words i₀ i = length words - i
+
+no : tie.Need-returns Inv μ
+no c =
+    let t = c .before .before in
+    sym (t .before .loop .inv .1 ∙ bytes-no _ _ (t .loop-test .taken) (c .if1 .taken))
+
+again : tie.Need-loop-again Inv μ
+again c =
+    let t = c .before .before in
+    (omega arith, t .before .loop .inv .1 ∙ bytes-on _ _ (t .loop-test .taken) (c .if1 .left))
+
+pub are-bytes-spec : {M : Type 1} → statement M
+are-bytes-spec =
+    tie.close
+    (tie.spec
+    Inv
+    μ
+    (λ c. (omega arith, refl))
+    (λ c. search needs)
+    (λ c. search needs)
+    no
+    (λ c. search needs)
+    (λ c. search needs)
+    again
+    (λ c. bytes-end _ _ (c .loop-test .left) ∙ sym (c .before .loop .inv .1)))
