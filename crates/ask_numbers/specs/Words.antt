@@ -36,7 +36,7 @@ pub record Said : Type 0 where
 abbrev pub end : Said
 end = record { inside = true; words = [] }
 
--- a text whose first byte is outside the layout
+-- from here on the text is outside the layout
 abbrev pub outside : Said
 outside = record { inside = false; words = [] }
 

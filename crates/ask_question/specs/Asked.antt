@@ -51,6 +51,7 @@ queryWith ws ps =
       select = selectsOf (itemsOf ws (ps .selects)) (ps .selects .count);
     }
 
+-- by the parts that are found
 abbrev pub queryOf : List ℕ → Query
 queryOf ws = queryWith ws (partsOf ws)
 

@@ -54,5 +54,6 @@ unfoldable pub insideWith : List ℕ → Parts → Bool
 insideWith ws ps =
     ps .eavt .inside && (leb (length ws) (ps .eavt .next) && (leb (getD ws 0 0) 1 && (areKinds (itemsOf ws (ps .statements)) && areBytes (itemsOf ws (ps .names)))))
 
+-- by the parts that are found
 abbrev pub insideOf : List ℕ → Bool
 insideOf ws = insideWith ws (partsOf ws)

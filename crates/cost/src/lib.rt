@@ -107,6 +107,10 @@ fn either(a: bool, b: bool) -> bool
     b
 }
 
+// For every scan, estimate a locality penalty. If the scan is over an index that we've used before (in an earlier scan), then at least
+// the root of the tree will still be cached, so the scan is cheaper than when this is the first time we use that index. Furthermore, if
+// we use the same part of the index (e.g. an eavt scan for the same entity that an earlier scan used), then locality is even better, so
+// we reduce the penalty further.
 fn locality_penalty(index: Index, is_key_used: bool, is_index_used: bool) -> u64
     ensures { λ r. ⌜ r ≡ penaltyFor index «is_key_used» «is_index_used» ⌝ }
 {

@@ -38,6 +38,7 @@ pub fn check_select_name(plan: Plan, names: &[u8], ends: &[usize], index: usize)
     let select = plan.select;
     let slots = plan.slots;
     let slot = slot_at(select, plan.select_count, index);
+    // It is structurally impossible for queries to select a constant: such a plan did not come from the planner.
     if is_constant(slots, plan.slot_count, slot) {
         return refuse(refusal::CONSTANT_SELECTED, index);
     }

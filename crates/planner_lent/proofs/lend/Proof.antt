@@ -24,4 +24,4 @@ lend-spec 𝓤 H 𝓜 𝓖 𝓡 =
     entered 𝓤 H (tripleOf 𝓤 H (𝓖 .A) lender.signature (lender.spec 𝓤 H (𝓖 .A) (𝓜 .mem) (𝓡 .run)))
     (tables 𝓤 H 𝓜 𝓡 code.env .C) (tables 𝓤 H 𝓜 𝓡 code.env .Λ) #lend code.function (code.unfolded 𝓤 H 𝓜 𝓡)
     (lender-meets planning #plan maxStatements maxSelects 𝓤 H (𝓖 .A) (givenOf 𝓤 H 𝓜 𝓖) sized (tablesOf 𝓤 H 𝓜 (tables 𝓤 H 𝓜 𝓡 code.env))
-    (cited 𝓤 H (Lent planning #plan 𝓤 H (𝓖 .A)) 𝓜 𝓡 code.env #plan plan-def.routine code.calls-lent·plan (plan-thm.met 𝓤 H 𝓜 𝓖 𝓡)))
+    (cited 𝓤 H (Lent planning #plan 𝓤 H (𝓖 .A)) 𝓜 𝓡 code.env #plan plan-def.routine code.calls-planner-lent·plan (plan-thm.met 𝓤 H 𝓜 𝓖 𝓡)))

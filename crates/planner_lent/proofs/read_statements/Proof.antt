@@ -53,5 +53,5 @@ read-statements-spec 𝓤 H 𝓜 𝓖 𝓡 =
     entered 𝓤 H (tripleOf 𝓤 H (𝓖 .A) read.signature (read.spec 𝓤 H (𝓖 .A) (𝓜 .mem) (𝓡 .run)))
     (tables 𝓤 H 𝓜 𝓡 code.env .C) (tables 𝓤 H 𝓜 𝓡 code.env .Λ) #read-statements code.function (code.unfolded 𝓤 H 𝓜 𝓡)
     (reader-meets reader 𝓤 H (𝓖 .A) (givenOf 𝓤 H 𝓜 𝓖) (tablesOf 𝓤 H 𝓜 (tables 𝓤 H 𝓜 𝓡 code.env))
-    (cited 𝓤 H (Empty reader 𝓤 H (𝓖 .A)) 𝓜 𝓡 code.env #no-statements empty-def.routine code.calls-lent·no-statements (empty-thm.met 𝓤 H 𝓜 𝓖 𝓡))
-    (cited 𝓤 H (Push reader 𝓤 H (𝓖 .A)) 𝓜 𝓡 code.env #push-statement push-def.routine code.calls-lent·push-statement (push-thm.met 𝓤 H 𝓜 𝓖 𝓡)))
+    (cited 𝓤 H (Empty reader 𝓤 H (𝓖 .A)) 𝓜 𝓡 code.env #no-statements empty-def.routine code.calls-planner-lent·no-statements (empty-thm.met 𝓤 H 𝓜 𝓖 𝓡))
+    (cited 𝓤 H (Push reader 𝓤 H (𝓖 .A)) 𝓜 𝓡 code.env #push-statement push-def.routine code.calls-planner-lent·push-statement (push-thm.met 𝓤 H 𝓜 𝓖 𝓡)))
