@@ -1,6 +1,5 @@
 -- `flow_of_code` meets its contract, number by number.
 use mathlib.Core.Path.{refl}
-use borrow.Author.Needs.{needs}
 use Rattle.plan.proofs.Codes.{third-flow}
 use Rattle.plan.proofs.flow_of_code.Statement.{statement}
 use Rattle.plan.proofs.flow_of_code.Tie as tie
