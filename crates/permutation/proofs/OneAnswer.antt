@@ -1,4 +1,4 @@
--- No second answer fits the promises of this crate: what `new`, `next_value`, `next_lent` and `next` say is one answer, and `next` leaves one state.
+-- No second answer fits the promises of this crate: what `new`, `next_value` and `next` say is one answer, and `next` leaves one state.
 use mathlib.Core.Path.{_≡_}
 use Prim.Native.Nat.{ℕ}
 use Rattle.refusal.proofs.OneAnswer.{one-answer}
@@ -11,7 +11,6 @@ use Rattle.permutation.specs.Swaps.{freshOf, nextOf}
 pub new-one : (n : ℕ) (r r′ : Fresh) → r ≡ freshOf n → r′ ≡ freshOf n → r ≡ r′
 new-one n r r′ = one-answer
 
--- `next_value` and `next_lent`
 pub step-one : (s : Permutations) (r r′ : Step) → r ≡ nextOf s → r′ ≡ nextOf s → r ≡ r′
 step-one s r r′ = one-answer
 

@@ -131,16 +131,6 @@ impl Permutations {
     }
 }
 
-// The step by the lent form, for callers that have the state by value: a local is lent to `next`.
-pub fn next_lent(state: Permutations) -> Step
-    ensures { λ r. ⌜ r ≡ nextOf state ⌝ }
-{
-    let mut lent = state;
-    let next = lent.next();
-    let after = lent;
-    Step { next, state: after }
-}
-
 // 40: more elements than a state has counters for.
 fn elements_fault(n: usize) -> Verdict
     ensures { λ r. ⌜ r ≡ elementsFault n ⌝ }

@@ -1,6 +1,6 @@
 // Cases of `replay`: what the steps of 005 give. A case is 0, a number of elements and a number of steps: the swaps from a fresh state
-// on, and the order after each. Or it is 1, a state's elements, its position and its 48 counters: four steps of that state, which may be
-// damaged, two by each form. compare/swaps.rs makes cases and answers.
+// on, and the order after each. Or it is 1, a state's elements, its position and its counters, as many as a state has: four steps of that
+// state, which may be damaged, two by each form. compare/swaps.rs makes cases and answers.
 use capacity::MAX_ELEMENTS;
 use permutation::NextSwap;
 use permutation::Permutations;
@@ -11,6 +11,8 @@ use replay_given::numbers;
 use replay_given::written;
 use replay_given::written::put;
 use replay_given::written::put_after;
+ghost use mathlib.Core.Path.{_≡_};
+ghost use Rattle.permutation.specs.Swaps.{nextOf};
 
 // The case that begins at a place. Returns where to read on.
 pub fn put_case(text: &[u8], start: usize) -> usize {
@@ -86,6 +88,16 @@ fn letters() -> [u8; MAX_ELEMENTS] {
     order
 }
 
+// The step by the lent form: a local is lent to `next`.
+fn next_lent(state: Permutations) -> Step
+    ensures { λ r. ⌜ r ≡ nextOf state ⌝ }
+{
+    let mut lent = state;
+    let next = lent.next();
+    let after = lent;
+    Step { next, state: after }
+}
+
 // What the first `steps` steps of n elements give, and the order after each.
 fn listing(n: usize, steps: usize) {
     let fresh = Permutations::new(n);
@@ -96,7 +108,7 @@ fn listing(n: usize, steps: usize) {
     let mut state = fresh.state;
     let mut t: usize = 0;
     while t < steps {
-        let step = permutation::next_lent(state);
+        let step = next_lent(state);
         let next = step.next;
         put_next(next);
         if next.is_some {
@@ -138,10 +150,10 @@ fn put_step(step: Step) {
 fn four_steps(state: Permutations) {
     let first = state.next_value();
     put_step(first);
-    let lent = permutation::next_lent(state);
+    let lent = next_lent(state);
     put_step(lent);
     let after = first.state;
-    let second = permutation::next_lent(after);
+    let second = next_lent(after);
     put_step(second);
     let value = after.next_value();
     put_step(value);

@@ -37,24 +37,24 @@ use denote.Triple.Entry.{onEntry}
 use denote.Triple.Spec.{Meets, tripleOf}
 use denote.Triple.Table.{entered, cited}
 use denote.Triple.Walked.{says, Stays, stay-none, walkOf, goes-none, Walks, ends-at, walked, walk-meets}
 use Rattle.permutation.specs.declared.Permutations.{Permutations}
 use Rattle.permutation.specs.declared.Step.{Step}
 use Rattle.permutation.specs.declared.NextSwap.{NextSwap}
 use Rattle.permutation.specs.Swaps.{nextOf}
 use Rattle.permutation.proofs.Permutations as T
 use Rattle.permutation.proofs.Permutations.Laws as T′
 use Rattle.permutation.proofs.Step as S
 use Rattle.permutation.proofs.Step.Laws as S′
 use Rattle.permutation.proofs.NextSwap as G
 use Rattle.permutation.proofs.NextSwap.Laws as G′
 use Rattle.permutation.proofs.Permutations.next as next′
 use Rattle.permutation.proofs.Permutations.next.Symbol as next-def
 use Rattle.permutation.proofs.Permutations.next.Symbol.{name as #next}
 use Rattle.permutation.proofs.Permutations.next.Met as next-thm
-use Rattle.permutation.proofs.next_lent.Key.{name as #next-lent}
-use Rattle.permutation.proofs.next_lent as lent
-use Rattle.permutation.proofs.next_lent.Statement as stated
-use Rattle.permutation.proofs.next_lent.Code as code
+use Rattle.replay_plans.proofs.swaps.next_lent.Key.{name as #next-lent}
+use Rattle.replay_plans.proofs.swaps.next_lent as lent
+use Rattle.replay_plans.proofs.swaps.next_lent.Statement as stated
+use Rattle.replay_plans.proofs.swaps.next_lent.Code as code
 
 abbrev stayed : Stays (lent.ended .signature .params) (lent.ended .kept)
 stayed = (stay-none (λ _. T.the-row) yes, tt)
