@@ -10,7 +10,6 @@ use Rattle.refusal.specs.declared.Verdict.{Verdict}
 use Rattle.refusal.specs.declared.Verdict.the-variants.{Fine, Refused}
 use Rattle.refusal.specs.Verdict.{refuseIf, orElse, unless}
 use Rattle.lists.proofs.Padded.{padded-length}
-use Rattle.query.specs.declared.Var.{Var}
 use Rattle.query.specs.declared.Statement.{Statement}
 use Rattle.query.specs.declared.Query.{Query}
 use Rattle.query.specs.Query.{statementsOf, selectsOf}
@@ -35,9 +34,9 @@ Sized p = length (p .select) ≡ maxSelects
 empty-sized : Sized emptyPlan
 empty-sized = length-replicate {0} {A = Slot} maxSelects zeroSlot
 
-made-sized : (n m k : ℕ) (ss : List Statement) (vs : List Var) → Sized (planFor n m ss k vs)
+made-sized : (q : Query) (ss : List Statement) → Sized (planFor q ss)
 unfolding planFor
-made-sized n m k ss vs = padded-length zeroSlot maxSelects (map slotOf vs)
+made-sized q ss = padded-length zeroSlot maxSelects (map slotOf (selectsOf q))
 
 -- planning
 given-sized : (q : Query) → Sized (planOf q .plan)
@@ -46,8 +45,8 @@ given-sized q = by-cases (planFault q)
   where
     by-cases : (v : Verdict)
         → Sized (unless {A = Planned} v (λ w. record { verdict = w; plan = emptyPlan })
-        (record { verdict = Fine; plan = planFor (q .«variable_count») (q .«where_statements» .count) (statementsOf q) (q .select .count) (selectsOf q) }) .plan)
-    by-cases Fine = made-sized _ _ _ _ _
+        (record { verdict = Fine; plan = planFor q (statementsOf q) }) .plan)
+    by-cases Fine = made-sized q _
     by-cases (Refused r) = empty-sized
 
 -- the search
@@ -59,7 +58,7 @@ found-sized q =
   where
     by-cases : (v : Verdict) (cs : List Candidate) → Sized (unless {A = Found} v notFound (firstLeast q cs) .plan)
     by-cases Fine [] = empty-sized
-    by-cases Fine (c ∷ cs) = made-sized _ _ _ _ _
+    by-cases Fine (c ∷ cs) = made-sized q _
     by-cases (Refused r) cs = empty-sized
 
 planned-sized : (task : ℕ) (q : Query) → Sized (plannedFor task q .plan)

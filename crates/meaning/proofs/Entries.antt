@@ -20,7 +20,7 @@ use Rattle.orders.proofs.Lists.{order-refl}
 use Rattle.query.specs.declared.Var.{Var}
 use Rattle.query.specs.declared.Statement.{Statement}
 use Rattle.query.specs.declared.Query.{Query}
-use Rattle.query.specs.Query.{statementsOf, selectsOf, zeroVar, zeroStatement}
+use Rattle.query.specs.Query.{statementsOf, zeroVar, zeroStatement}
 use Rattle.query_check.specs.Clear.{Clear}
 use Rattle.plan.specs.declared.Plan.{Plan}
 use Rattle.plan_check.specs.Check.{checkOf}
@@ -64,7 +64,7 @@ module _ (q : Query) (statements-sized : length (q .«where_statements» .items)
     same-plan : planOf (arrangedQuery q asGiven) .plan ≡ planOf q .plan
     same-plan =
         fresh-plan q statements-sized (planned-clear .fine) asGiven (given-sound .order) selects-sized (ordered-accepted q planned-clear asGiven given-sound) ∙
-        ap (λ (ss : List Statement). planFor (q .«variable_count») (q .«where_statements» .count) ss (q .select .count) (selectsOf q)) given-statements ∙
+        ap (planFor q) given-statements ∙
         sym (plan-there q statements-sized selects-sized accepted)
 
     -- where planning gives a plan, the order of the statements as given is sound, and what `next` reaches from that plan is a plan of it

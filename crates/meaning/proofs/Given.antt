@@ -74,14 +74,14 @@ module _ (q : Query) (clear : Clear q) (accepted : planOf q .verdict ≡ Fine) w
   fits : Fits n (q .«where_statements» .count) ss (q .select .count)
   fits = query-fits q (clear .fine)
 
-  there : first ≡ planFor n (q .«where_statements» .count) ss (q .select .count) (selectsOf q)
+  there : first ≡ planFor q ss
   there = plan-there q (clear .statements-sized) (clear .selects-sized) accepted
 
   first-scans : scansOf first ≡ scansFor [] ss n
   first-scans = plan-scans q (clear .statements-sized) (clear .selects-sized) accepted
 
   first-slots : slotsOf first ≡ slotsFor n ss
-  first-slots = rw there (planned-slots n (q .«where_statements» .count) ss (q .select .count) (selectsOf q) (fits .few-slots))
+  first-slots = rw there (planned-slots q ss (fits .few-slots))
 
   pub first-count : first .«scan_count» ≡ q .«where_statements» .count
   first-count = ap (λ (p : Plan). p .«scan_count») there ∙ (unfold planFor in refl)
@@ -90,7 +90,7 @@ module _ (q : Query) (clear : Clear q) (accepted : planOf q .verdict ≡ Fine) w
   first-selects =
       let f = fits in
       let z = clear .selects-sized in
-      rw there (planned-selects n (q .«where_statements» .count) ss (q .select .count) (selectsOf q) (length-take-le _ _ (omega arith)) (f .few-selects))
+      rw there (planned-selects q ss (length-take-le _ _ (omega arith)) (f .few-selects))
 
   pub first-fits : first .«scan_count» ≤ length (first .scans)
   first-fits = plan-fits q (clear .statements-sized) (clear .selects-sized) accepted

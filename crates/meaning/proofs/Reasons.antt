@@ -205,7 +205,7 @@ module _ (q : Query) where
   pub planning-explained : PlanningExplained q
   unfolding planOf
   planning-explained = record {
-    answer = either-answer (planFor n m ss (q .select .count) vs) (planFault q) plan-explained;
+    answer = either-answer (planFor q ss) (planFault q) plan-explained;
     refuses = λ w e. plan-sound (sym (either-verdict (planFault q) _) ∙ e) w;
-    first = λ w. rw (either-verdict (planFault q) (planFor n m ss (q .select .count) vs)) (plan-first w);
+    first = λ w. rw (either-verdict (planFault q) (planFor q ss)) (plan-first w);
   }

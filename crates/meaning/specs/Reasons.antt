@@ -83,7 +83,7 @@ numberOf (Refused r) = r .number
 -- lower number than the one given
 pub record PlanningExplained (q : Query) : Type 0 where
   pub answer :
-      (planOf q ≡ record { verdict = Fine; plan = planFor (q .«variable_count») (q .«where_statements» .count) (statementsOf q) (q .select .count) (selectsOf q) })
+      (planOf q ≡ record { verdict = Fine; plan = planFor q (statementsOf q) })
       ⊎ ((w : PlanReason q) × (planOf q ≡ record { verdict = planRefusal w; plan = emptyPlan }))
   pub refuses : PlanReason q → planOf q .verdict ≡ Fine → ⊥
   pub first : (w : PlanReason q) → numberOf (planOf q .verdict) ≤ numberOf (planRefusal w)

@@ -12,7 +12,7 @@ use Rattle.refusal.specs.Verdict.{unless}
 use Rattle.refusal.proofs.Fine.{or-fine}
 use Rattle.lists.proofs.Padded.{padded-length}
 use Rattle.query.specs.declared.Query.{Query}
-use Rattle.query.specs.Query.{statementsOf, selectsOf}
+use Rattle.query.specs.Query.{statementsOf}
 use Rattle.query_check.specs.Refusals.{queryFault}
 use Rattle.plan.specs.declared.Plan.{Plan}
 use Rattle.plan.specs.Plan.{emptyPlan, scansOf}
@@ -51,7 +51,7 @@ module _ (q : Query) (statements-sized : length (q .«where_statements» .items)
   unfolding planFault
   bound-fine = or-fine (queryFault q) (boundTwiceFault [] (statementsOf q) 0) none-refused .1
 
-  pub plan-there : planOf q .plan ≡ planFor (q .«variable_count») (q .«where_statements» .count) (statementsOf q) (q .select .count) (selectsOf q)
+  pub plan-there : planOf q .plan ≡ planFor q (statementsOf q)
   unfolding planOf
   plan-there = simp none-refused
 
@@ -63,7 +63,7 @@ module _ (q : Query) (statements-sized : length (q .«where_statements» .items)
   pub plan-scans : scansOf (planOf q .plan) ≡ scansFor [] (statementsOf q) (q .«variable_count»)
   plan-scans =
       let f = query-fits q query-fine in
-      rw plan-there (planned-scans _ _ _ _ _ (length-take-le _ _ (omega arith)) (f .few-statements))
+      rw plan-there (planned-scans q (statementsOf q) (length-take-le _ _ (omega arith)) (f .few-statements))
 
   -- each stands at the beginning of its cycle
   pub plan-initial : Initial (scansOf (planOf q .plan))

@@ -30,21 +30,24 @@ use Rattle.planned.proofs.Slots.{slots-length, variable-set, constant-s
 use Rattle.planned.proofs.Places.{take-scans, scan-at, bound-once, selects-below, all-named}
 use Rattle.planned.proofs.ScanFits.{scan-fits}
 
-module _ (n m : ℕ) (ss : List Statement) (c : ℕ) (vs : List Var) where
+module _ (q : Query) (ss : List Statement) where
+  abbrev variables : ℕ
+  variables = q .«variable_count»
+
   -- below its counts the plan has the statements' scans
-  pub planned-scans : length ss ≡ m → m ≤ maxScans → scansOf (planFor n m ss c vs) ≡ scansFor [] ss n
+  pub planned-scans : length ss ≡ q .«where_statements» .count → q .«where_statements» .count ≤ maxScans → scansOf (planFor q ss) ≡ scansFor [] ss variables
   unfolding planFor
-  planned-scans e h = padded-take zeroScan maxScans m (scansFor [] ss n) (length-scans [] ss n ∙ e) h
+  planned-scans e h = padded-take zeroScan maxScans _ (scansFor [] ss variables) (length-scans [] ss variables ∙ e) h
 
   -- the variables' slots and the constants'
-  pub planned-slots : n + constants ss ≤ maxSlots → slotsOf (planFor n m ss c vs) ≡ slotsFor n ss
+  pub planned-slots : variables + constants ss ≤ maxSlots → slotsOf (planFor q ss) ≡ slotsFor variables ss
   unfolding planFor
-  planned-slots h = padded-take variableSlot maxSlots (n + constants ss) (slotsFor n ss) (slots-length n ss) h
+  planned-slots h = padded-take variableSlot maxSlots _ (slotsFor variables ss) (slots-length variables ss) h
 
   -- and the selected variables' slots
-  pub planned-selects : length vs ≡ c → c ≤ maxSelects → slotsSelected (planFor n m ss c vs) ≡ map slotOf vs
+  pub planned-selects : length (selectsOf q) ≡ q .select .count → q .select .count ≤ maxSelects → slotsSelected (planFor q ss) ≡ map slotOf (selectsOf q)
   unfolding planFor
-  planned-selects e h = padded-take zeroSlot maxSelects c (map slotOf vs) (simp length-map e) h
+  planned-selects e h = padded-take zeroSlot maxSelects _ (map slotOf (selectsOf q)) (simp length-map e) h
 
 -- there is a constant's slot for statement j
 room : (ss : List Statement) (j : ℕ) (d : Statement) → j < length ss → constants (take j ss) + constantsIn (getD ss j d .value) ≤ constants ss
@@ -82,8 +85,7 @@ each-selected n vs i low j h =
 module _ (q : Query) (statements-sized : length (q .«where_statements» .items) ≡ maxStatements) (selects-sized : length (q .select .items) ≡ maxSelects)
     (fine : queryFault q ≡ Fine) where
   -- 10 to 16: the plan is as promised
-  pub plan-promised : boundTwiceFault [] (statementsOf q) 0 ≡ Fine
-      → Promised (planFor (q .«variable_count») (q .«where_statements» .count) (statementsOf q) (q .select .count) (selectsOf q))
+  pub plan-promised : boundTwiceFault [] (statementsOf q) 0 ≡ Fine → Promised (planFor q (statementsOf q))
   unfolding planFor queryFault variablesFault
   plan-promised once =
       let n = q .«variable_count» in
@@ -94,9 +96,9 @@ module _ (q : Query) (statements-sized : length (q .«where_statements» .items)
       let f = query-fits q fine in
       let a = or-fine (statementsFault n ss 0) _ (or-fine (capacityFault n m ss c) _ fine .1) in
       let b = or-fine (selectsFault n vs m) _ (a .1) in
-      let scans = planned-scans n m ss c vs (length-take-le m _ (omega arith)) (f .few-statements) in
-      let slots = planned-slots n m ss c vs (f .few-slots) in
-      let selects = planned-selects n m ss c vs (length-take-le c _ (omega arith)) (f .few-selects) in
+      let scans = planned-scans q ss (length-take-le m _ (omega arith)) (f .few-statements) in
+      let slots = planned-slots q ss (f .few-slots) in
+      let selects = planned-selects q ss (length-take-le c _ (omega arith)) (f .few-selects) in
       record {
         few-scans = f .few-statements;
         few-slots = f .few-slots;

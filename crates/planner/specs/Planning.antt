@@ -81,19 +81,20 @@ initializedOf n ss =
     unless (boundTwiceFault [] ss 0) notInitialized
     (record { verdict = Fine; scans = padded zeroScan maxScans (scansFor [] ss n); «slot_count» = n + constants ss })
 
--- the plan of n variables and so many statements and selects: past its counts variable slots, out-out aevt scans and selects, all numbers 0
-unfoldable pub planFor : ℕ → ℕ → List Statement → ℕ → List Var → Plan
-planFor n statements ss selects vs = record {
-  scans = padded zeroScan maxScans (scansFor [] ss n);
-  «scan_count» = statements;
-  slots = padded variableSlot maxSlots (slotsFor n ss);
-  «slot_count» = n + constants ss;
-  select = padded zeroSlot maxSelects (map slotOf vs);
-  «select_count» = selects;
+-- the plan of a query and its statements, as given or in another order: past its counts variable slots, out-out aevt scans and selects,
+-- all numbers 0
+unfoldable pub planFor : Query → List Statement → Plan
+planFor q ss = record {
+  scans = padded zeroScan maxScans (scansFor [] ss (q .«variable_count»));
+  «scan_count» = q .«where_statements» .count;
+  slots = padded variableSlot maxSlots (slotsFor (q .«variable_count») ss);
+  «slot_count» = q .«variable_count» + constants ss;
+  select = padded zeroSlot maxSelects (map slotOf (selectsOf q));
+  «select_count» = q .select .count;
 }
 
 -- what planning answers; where it refuses, the empty plan
 unfoldable pub planOf : Query → Planned
 planOf q =
     unless (planFault q) (λ v. record { verdict = v; plan = emptyPlan })
-    (record { verdict = Fine; plan = planFor (q .«variable_count») (q .«where_statements» .count) (statementsOf q) (q .select .count) (selectsOf q) })
+    (record { verdict = Fine; plan = planFor q (statementsOf q) })

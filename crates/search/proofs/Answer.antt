@@ -19,7 +19,7 @@ use Rattle.orders.specs.Lists.{upTo, OrderOf}
 use Rattle.orders.proofs.Lists.{length-span}
 use Rattle.query.specs.declared.Query.{Query}
 use Rattle.query.specs.declared.Statement.{Statement}
-use Rattle.query.specs.Query.{statementsOf, selectsOf}
+use Rattle.query.specs.Query.{statementsOf}
 use Rattle.query_check.specs.Refusals.{queryFault}
 use Rattle.plan.specs.declared.Scan.{Scan}
 use Rattle.plan.specs.declared.Plan.{Plan}
@@ -101,7 +101,7 @@ module _ (q : Query) (able : Searchable q) where
     kept-orders = rw (w .5) record { few = able .few; is-order = rw front is-order; zeros = rw front }
 
     abbrev fresh : Plan
-    fresh = planFor (q .«variable_count») count (arranged ss o) (q .select .count) (selectsOf q)
+    fresh = planFor q (arranged ss o)
 
     planned : planOf (arrangedQuery q o) .plan ≡ fresh
     planned =

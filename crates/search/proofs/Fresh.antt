@@ -14,7 +14,7 @@ use Rattle.lists.proofs.Padded.{padded-length, padded-take}
 use Rattle.orders.specs.Lists.{upTo, OrderOf}
 use Rattle.query.specs.declared.Query.{Query}
 use Rattle.query.specs.declared.Statement.{Statement}
-use Rattle.query.specs.Query.{statementsOf, selectsOf, zeroStatement}
+use Rattle.query.specs.Query.{statementsOf, zeroStatement}
 use Rattle.query_check.specs.Refusals.{statementsFault, capacityFault, variablesFault, queryFault}
 use Rattle.plan.specs.declared.Scan.{Scan}
 use Rattle.plan.specs.declared.Plan.{Plan}
@@ -88,7 +88,8 @@ module _ (q : Query) (sized : length (q .«where_statements» .items) ≡ maxSta
     unfolding candidatesOf
     sound-plans = let f = sym arranged-fault ∙ sym (plan-verdict (arrangedQuery q o)) ∙ accepted in rw f
 
-    pub fresh-plan : planOf (arrangedQuery q o) .plan ≡ planFor n count (arranged ss o) (q .select .count) (selectsOf q)
+    pub fresh-plan : planOf (arrangedQuery q o) .plan ≡ planFor q (arranged ss o)
+    unfolding planFor
     fresh-plan = rw arranged-statements at (plan-there (arrangedQuery q o) (padded-length zeroStatement maxStatements _) selects-sized accepted)
 
     pub fresh-scans : planOf (arrangedQuery q o) .plan .scans ≡ padded zeroScan maxScans initial

@@ -14,7 +14,7 @@ use Rattle.orders.specs.Lists.{upTo, factorial}
 use Rattle.orders.specs.Listing.{listed}
 use Rattle.query.specs.declared.Statement.{Statement}
 use Rattle.query.specs.declared.Query.{Query}
-use Rattle.query.specs.Query.{statementsOf, selectsOf, zeroStatement}
+use Rattle.query.specs.Query.{statementsOf, zeroStatement}
 use Rattle.query_check.specs.Refusals.{queryFault}
 use Rattle.plan.specs.declared.Scan.{Scan}
 use Rattle.plan.specs.Plan.{emptyPlan}
@@ -76,9 +76,7 @@ abbrev pub foundAs : Query → Candidate → Found
 foundAs q c = record {
   verdict = Fine;
   order = padded 0 maxSearched (c .order);
-  plan =
-      withScans (planFor (q .«variable_count») (q .«where_statements» .count) (arranged (statementsOf q) (c .order)) (q .select .count) (selectsOf q))
-      (c .scans);
+  plan = withScans (planFor q (arranged (statementsOf q) (c .order))) (c .scans);
   cost = c .cost;
 }
 

@@ -14,33 +14,34 @@ use Rattle.query.specs.declared.Statement.{Statement}
 use Rattle.query.specs.declared.Query.{Query}
 use Rattle.query.specs.Query.{statementsOf, selectsOf}
 use Rattle.query_check.specs.Refusals.{capacityFault, variablesFault, queryFault}
+use Rattle.plan.specs.declared.Plan.{Plan}
 use Rattle.planner.specs.Planning.{planFor}
 use Rattle.listing.specs.Next.{withScans}
 use Rattle.planner_lent.specs.Lent.{readStatements, readSelects, queryOf}
-use Rattle.planner_lent.proofs.Agree.{statements-read, selects-read}
+use Rattle.planner_lent.proofs.Agree.{statements-read, selects-read, plan-alike}
 use Rattle.search.specs.declared.Found.{Found}
 use Rattle.search.specs.Search.{Candidate, orders, arranged, candidates, leastFrom, notFound, firstLeast, searchOf}
 use Rattle.search_lent.specs.Lent.{searchLent}
 
--- the first of least cost, of the variable count, the count of statements, the statements, the count of selects and the selects
-abbrev foundParts : ℕ → ℕ → List Statement → ℕ → List Var → List Candidate → Found
-foundParts n statements ss selects vs [] = notFound (refused 18 0)
-foundParts n statements ss selects vs (c ∷ cs) =
+-- the first of least cost, of the plan of statements, and of the statements
+abbrev foundParts : (List Statement → Plan) → List Statement → List Candidate → Found
+foundParts planOn ss [] = notFound (refused 18 0)
+foundParts planOn ss (c ∷ cs) =
     let d = leastFrom c cs in
-    record { verdict = Fine; order = padded 0 maxSearched (d .order); plan = withScans (planFor n statements (arranged ss (d .order)) selects vs) (d .scans); cost = d .cost }
+    record { verdict = Fine; order = padded 0 maxSearched (d .order); plan = withScans (planOn (arranged ss (d .order))) (d .scans); cost = d .cost }
 
-found-parts : (q : Query) (cs : List Candidate)
-    → firstLeast q cs ≡ foundParts (q .«variable_count») (q .«where_statements» .count) (statementsOf q) (q .select .count) (selectsOf q) cs
+found-parts : (q : Query) (cs : List Candidate) → firstLeast q cs ≡ foundParts (planFor q) (statementsOf q) cs
 found-parts q [] = refl
 found-parts q (c ∷ cs) = refl
 
--- the search, of the same
-abbrev searchParts : ℕ → ℕ → List Statement → ℕ → List Var → Found
-searchParts n statements ss selects vs =
+-- the search, of the variable count, the count of statements, the statements, the count of selects, the selects and the plan of statements
+abbrev searchParts : ℕ → ℕ → List Statement → ℕ → List Var → (List Statement → Plan) → Found
+searchParts n statements ss selects vs planOn =
     unless (orElse (orElse (capacityFault n statements ss selects) (variablesFault n statements ss vs)) (refuseIf (ltb maxSearched statements) 17 0)) notFound
-    (foundParts n statements ss selects vs (candidates n ss (orders statements)))
+    (foundParts planOn ss (candidates n ss (orders statements)))
 
-search-parts : (q : Query) → searchOf q ≡ searchParts (q .«variable_count») (q .«where_statements» .count) (statementsOf q) (q .select .count) (selectsOf q)
+search-parts : (q : Query)
+    → searchOf q ≡ searchParts (q .«variable_count») (q .«where_statements» .count) (statementsOf q) (q .select .count) (selectsOf q) (planFor q)
 unfolding searchOf queryFault
 search-parts q = rw (found-parts q (candidates (q .«variable_count») (statementsOf q) (orders (q .«where_statements» .count))))
 
@@ -49,5 +50,6 @@ pub lent-agrees : (n : ℕ) (ss : List Statement) (vs : List Var) → length ss 
     → q .«where_statements» .count ≡ length ss → statementsOf q ≡ ss → q .select .count ≡ length vs → selectsOf q ≡ vs → searchOf q ≡ searchLent n ss vs
 lent-agrees n ss vs few few′ q k c s d v =
     let r = queryOf n (readStatements ss) (readSelects vs) in
-    (search-parts q ∙ (λ i. searchParts (k i) (c i) (s i) (d i) (v i))) ∙
-    sym (search-parts r ∙ (λ i. searchParts n (length ss) (statements-read n ss vs few i) (length vs) (selects-read n ss vs few′ i)))
+    let p = plan-alike q r k c d (v ∙ sym (selects-read n ss vs few′)) in
+    (search-parts q ∙ (λ i. searchParts (k i) (c i) (s i) (d i) (v i) (p i))) ∙
+    sym (search-parts r ∙ (λ i. searchParts n (length ss) (statements-read n ss vs few i) (length vs) (selects-read n ss vs few′ i) (planFor r)))
