@@ -154,7 +154,7 @@ fn is_bound_twice(slot_initialized: [bool; MAX_SLOTS], statement: Statement) -> 
         QueryValue::Const(_) => false,
         QueryValue::Var(v) => {
             if v.0 == entity.0 {
-                !is_set(slot_initialized, entity)
+                !is_set(slot_initialized, Slot(entity.0))
             } else {
                 false
             }
@@ -172,16 +172,16 @@ fn scan_for(slot_initialized: [bool; MAX_SLOTS], statement: Statement, slot_coun
     let entity = statement.entity;
     let attribute = statement.attribute;
     let value = statement.value;
-    let is_entity_init = is_set(slot_initialized, entity);
+    let slot_entity = Slot(entity.0);
+    let slot_value = value_slot_of(value, slot_count);
+    let is_entity_init = is_set(slot_initialized, slot_entity);
     let is_value_init = is_value_set(slot_initialized, value);
-    let entity_slot = Slot(entity.0);
-    let value_slot = value_slot_of(value, slot_count);
     first_scan(
         is_entity_init,
         is_value_init,
-        entity_slot,
+        slot_entity,
         attribute,
-        value_slot,
+        slot_value,
     )
 }
 
@@ -241,10 +241,10 @@ fn value_slot_of(value: QueryValue, slot_count: usize) -> Slot
     }
 }
 
-fn is_set(slot_initialized: [bool; MAX_SLOTS], v: Var) -> bool
-    ensures { λ r. ⌜ r ≡ getD «slot_initialized» (v .0) false ⌝ }
+fn is_set(slot_initialized: [bool; MAX_SLOTS], slot: Slot) -> bool
+    ensures { λ r. ⌜ r ≡ getD «slot_initialized» (slot .0) false ⌝ }
 {
-    let i = v.0 as usize;
+    let i = slot.0 as usize;
     if i < MAX_SLOTS {
         slot_initialized[i]
     } else {
@@ -258,14 +258,14 @@ fn is_value_set(slot_initialized: [bool; MAX_SLOTS], value: QueryValue) -> bool
 {
     match value {
         QueryValue::Const(_) => true,
-        QueryValue::Var(v) => is_set(slot_initialized, v),
+        QueryValue::Var(v) => is_set(slot_initialized, Slot(v.0)),
     }
 }
 
-fn with_variable(slot_initialized: [bool; MAX_SLOTS], v: Var) -> [bool; MAX_SLOTS]
-    ensures { λ r. ⌜ r ≡ set «slot_initialized» (v .0) true ⌝ }
+fn with_slot(slot_initialized: [bool; MAX_SLOTS], slot: Slot) -> [bool; MAX_SLOTS]
+    ensures { λ r. ⌜ r ≡ set «slot_initialized» (slot .0) true ⌝ }
 {
-    let i = v.0 as usize;
+    let i = slot.0 as usize;
     if i < MAX_SLOTS {
         let mut next = slot_initialized;
         next[i] = true;
@@ -280,10 +280,10 @@ fn with_statement(slot_initialized: [bool; MAX_SLOTS], statement: Statement) -> 
 {
     let entity = statement.entity;
     let value = statement.value;
-    let next = with_variable(slot_initialized, entity);
+    let next = with_slot(slot_initialized, Slot(entity.0));
     match value {
         QueryValue::Const(_) => next,
-        QueryValue::Var(v) => with_variable(next, v),
+        QueryValue::Var(v) => with_slot(next, Slot(v.0)),
     }
 }
 

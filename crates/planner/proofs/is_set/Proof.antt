@@ -13,7 +13,7 @@ past : tie.Need-returns-2
 past c =
     let a = c .before .before .args in
     let h : length (a .t1) ≡ maxSlots = search needs in
-    let l : length (a .t1) ≤ a .v .0 = omega arith in
+    let l : length (a .t1) ≤ a .slot .0 = omega arith in
     sym (List·getD-eq-default (a .t1) false l)
 
 pub is-set-spec : {M : Type 1} → statement M

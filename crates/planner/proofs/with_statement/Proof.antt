@@ -6,11 +6,11 @@ use Rattle.planner.proofs.with_statement.Tie as tie
 
 constant : tie.Need-returns
 unfolding statementRecord
-constant c = simp (c .enum-told .given .1) (c .before .before .with-variable .ensures)
+constant c = simp (c .enum-told .given .1) (c .before .before .with-slot .ensures)
 
 variable : tie.Need-returns-2
 unfolding statementRecord
-variable c = simp (c .before .before .value .given .1) (rw (c .before .before .before .before .with-variable .ensures) at (c .with-variable2 .ensures))
+variable c = simp (c .before .before .value .given .1) (rw (c .before .before .before .before .with-slot .ensures) at (c .with-slot2 .ensures))
 
 pub with-statement-spec : {M : Type 1} → statement M
 with-statement-spec = tie.close (tie.spec (λ c κs. search needs) (λ c. search needs) (λ c. search needs) (λ c κs. search needs) constant variable)
