@@ -53,8 +53,9 @@ module _ (variables n : ℕ) (items : List Statement) (fits : Plannable variable
         rw (f, b .made, b .slots, e)
 
     module _ (h : i < n) where
-      below : Below maxSlots (statementAt items i)
-      below =
+      -- its variables have slots
+      pub begun-below : Below maxSlots (statementAt items i)
+      begun-below =
           let l : i < length (take n items) = omega (arith, length-take-le n items (omega (arith, fits .few-statements))) in
           below-more variables maxSlots (omega (arith, fits .few-slots)) _
           (rw (getD-take n items i zeroStatement h) at (statements-below variables (take n items) 0 (fits .low) i zeroStatement l))
@@ -66,7 +67,7 @@ module _ (variables n : ℕ) (items : List Statement) (fits : Plannable variable
       turn = rw (walk-step items n (omega (arith, fits .few-statements)) zeroStatement i h) at (b .fine)
 
       bound : bindsTwice (take i items) (statementAt items i) ≡ bindsTwiceIn rec (statementAt items i)
-      bound = sym (tracks-bound (take i items) (b .tracks) (statementAt items i) below)
+      bound = sym (tracks-bound (take i items) (b .tracks) (statementAt items i) begun-below)
 
       -- a statement that binds one variable twice
       pub begun-bound : bindsTwiceIn rec (statementAt items i) ≡ true → initializedOf variables (take n items) ≡ notInitialized (refused 16 i)
@@ -86,7 +87,7 @@ module _ (variables n : ℕ) (items : List Statement) (fits : Plannable variable
             within = omega arith;
             tracks = rw front (tracks-more (take i items) (b .tracks) (statementAt items i));
             made =
-                rw (front, scans-more [] (take i items) (statementAt items i) variables, b .made, tracks-scan (take i items) (b .tracks) (statementAt items i) below next, b .slots)
+                rw (front, scans-more [] (take i items) (statementAt items i) variables, b .made, tracks-scan (take i items) (b .tracks) (statementAt items i) begun-below next, b .slots)
                 (rw l at (padded-more zeroScan maxScans (scansFor [] (take i items) variables) s (omega (arith, l, fits .few-statements))));
             slots = rw (front, constants-more (take i items) (statementAt items i)) (omega (arith, b .slots));
             fine = rw front (turn ∙ rw (bound ∙ e));

@@ -30,13 +30,15 @@ use query::Var;
 use refusal::Verdict;
 use refusal::refuse;
 ghost use mathlib.Core.Path.{_≡_};
-ghost use Prim.Native.Nat.{_≤_, _<_, _^_};
+ghost use Prim.Native.Nat.{_+_, _≤_, _<_, _^_};
 ghost use mathlib.Core.List.{map};
 ghost use mathlib.Core.Bool.{true, false};
 ghost use lib.ListN.{take, getD, set};
 ghost use Rattle.capacity.specs.Capacity.{maxSlots, maxSelects};
 ghost use Rattle.refusal.specs.Verdict.{refused};
 ghost use Rattle.lists.specs.Padded.{padded};
+ghost use Rattle.query_check.specs.Refusals.{constantsIn};
+ghost use Rattle.query_check.specs.Below.{ValueBelow, Below};
 ghost use Rattle.plan.specs.Plan.{zeroSlot, variableSlot};
 ghost use Rattle.planner.specs.Planning.{slotOf, valueSlot, scanFor, slotsFor, notInitialized, initializedOf, planOf};
 ghost use Rattle.planner.specs.Record.{Plannable, isValueSetIn, bindsTwiceIn, scanIn, statementRecord, constantIn};
@@ -146,6 +148,7 @@ fn not_initialized(i: usize) -> Initialized
 }
 
 fn is_bound_twice(slot_initialized: [bool; MAX_SLOTS], statement: Statement) -> bool
+    requires { ⌜ statement .entity .0 < maxSlots ⌝ }
     ensures { λ r. ⌜ r ≡ bindsTwiceIn «slot_initialized» statement ⌝ }
 {
     let entity = statement.entity;
@@ -166,7 +169,7 @@ fn is_bound_twice(slot_initialized: [bool; MAX_SLOTS], statement: Statement) -> 
 // there are multiple indexes that could fill the slot, we pick the first one, and later on, iterating plans will explore
 // alternatives.
 fn scan_for(slot_initialized: [bool; MAX_SLOTS], statement: Statement, slot_count: usize) -> Scan
-    requires { ⌜ «slot_count» < 2 ^ 16 ⌝ }
+    requires { ⌜ (Below maxSlots statement) × («slot_count» < 2 ^ 16) ⌝ }
     ensures { λ r. ⌜ r ≡ scanIn «slot_initialized» statement «slot_count» ⌝ }
 {
     let entity = statement.entity;
@@ -241,19 +244,18 @@ fn value_slot_of(value: QueryValue, slot_count: usize) -> Slot
     }
 }
 
+// The query was checked first, so a variable's slot is in the record.
 fn is_set(slot_initialized: [bool; MAX_SLOTS], slot: Slot) -> bool
+    requires { ⌜ slot .0 < maxSlots ⌝ }
     ensures { λ r. ⌜ r ≡ getD «slot_initialized» (slot .0) false ⌝ }
 {
     let i = slot.0 as usize;
-    if i < MAX_SLOTS {
-        slot_initialized[i]
-    } else {
-        false
-    }
+    slot_initialized[i]
 }
 
 // Constants are initialized at the start, before any scans.
 fn is_value_set(slot_initialized: [bool; MAX_SLOTS], value: QueryValue) -> bool
+    requires { ⌜ ValueBelow maxSlots value ⌝ }
     ensures { λ r. ⌜ r ≡ isValueSetIn «slot_initialized» value ⌝ }
 {
     match value {
@@ -263,19 +265,17 @@ fn is_value_set(slot_initialized: [bool; MAX_SLOTS], value: QueryValue) -> bool
 }
 
 fn with_slot(slot_initialized: [bool; MAX_SLOTS], slot: Slot) -> [bool; MAX_SLOTS]
+    requires { ⌜ slot .0 < maxSlots ⌝ }
     ensures { λ r. ⌜ r ≡ set «slot_initialized» (slot .0) true ⌝ }
 {
     let i = slot.0 as usize;
-    if i < MAX_SLOTS {
-        let mut next = slot_initialized;
-        next[i] = true;
-        next
-    } else {
-        slot_initialized
-    }
+    let mut next = slot_initialized;
+    next[i] = true;
+    next
 }
 
 fn with_statement(slot_initialized: [bool; MAX_SLOTS], statement: Statement) -> [bool; MAX_SLOTS]
+    requires { ⌜ Below maxSlots statement ⌝ }
     ensures { λ r. ⌜ r ≡ statementRecord «slot_initialized» statement ⌝ }
 {
     let entity = statement.entity;
@@ -310,25 +310,22 @@ fn initialize_slots(
     slots
 }
 
-// A constant takes the next slot.
+// A constant takes the next slot; the query was checked first, so there is one.
 fn with_constant(
     slots: [SlotRecord; MAX_SLOTS],
     slot_count: usize,
     value: QueryValue,
 ) -> [SlotRecord; MAX_SLOTS]
+    requires { ⌜ «slot_count» + constantsIn value ≤ maxSlots ⌝ }
     ensures { λ r. ⌜ r ≡ constantIn slots «slot_count» value ⌝ }
 {
     match value {
         QueryValue::Const(constant) => {
-            if slot_count < MAX_SLOTS {
-                let mut next = slots;
-                next[slot_count] = SlotRecord {
-                    definition: SlotDefinition::Constant(constant),
-                };
-                next
-            } else {
-                slots
-            }
+            let mut next = slots;
+            next[slot_count] = SlotRecord {
+                definition: SlotDefinition::Constant(constant),
+            };
+            next
         }
         QueryValue::Var(_) => slots,
     }

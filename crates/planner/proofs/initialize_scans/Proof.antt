@@ -6,7 +6,8 @@ use borrow.Author.Needs.{needs}
 use lib.ListN.{length}
 use Rattle.capacity.specs.Capacity.{maxStatements, maxSlots}
 use Rattle.query_check.specs.Refusals.{constantsIn}
-use Rattle.planner.proofs.Begun.{Begun, statementAt, begun-none, begun-all, begun-bound, begun-more, begun-room}
+use Rattle.query_check.specs.Below.{Below}
+use Rattle.planner.proofs.Begun.{Begun, statementAt, begun-none, begun-all, begun-below, begun-bound, begun-more, begun-room}
 use Rattle.planner.proofs.initialize_scans.Statement.{statement}
 use Rattle.planner.proofs.initialize_scans.Tie as tie
 
@@ -35,9 +36,14 @@ more c =
     rw (c .before .with-statement .ensures, c .before .before .scan-for .ensures, c .constants-in .ensures)
     (begun-more _ _ _ (d .before .pre) h (d .loop .inv) (b .before .before .loop-test .taken) (sym (b .is-bound-twice .ensures) ∙ e .if1 .left))
 
--- a scan, and a slot for a constant
+-- a scan, slots for its variables, and one for a constant
 few : (c : tie.In-loop Inv μ) → c .before .loop .i < maxStatements
 few c = omega (arith, c .before .before .pre .few-statements)
+
+low : (c : tie.In-loop Inv μ) → Below maxSlots (statementAt (c .before .before .args .t2) (c .before .loop .i))
+low c =
+    let h : length (c .before .before .args .t2) ≡ maxStatements = search needs in
+    begun-below _ _ _ (c .before .before .pre) h (c .before .loop .inv) (c .loop-test .taken)
 
 room : (c : tie.In-loop Inv μ) → c .before .loop .slot-count + constantsIn (statementAt (c .before .before .args .t2) (c .before .loop .i) .value) ≤ maxSlots
 room c =
@@ -59,13 +65,13 @@ initialize-scans-spec =
     start
     (λ c. search needs)
     few
-    (λ c κs. search needs)
+    (λ c κs. low (c .before) .entity-below)
     (λ c κs. search needs)
     bound
-    (λ c κs. omega (arith, room (c .before .before .before)))
+    (λ c κs. (low (c .before .before .before), omega (arith, room (c .before .before .before))))
     (λ c. search needs)
     (λ c. few (c .before .before .before .before))
-    (λ c κs. search needs)
+    (λ c κs. low (c .before .before .before .before))
     (λ c κs. search needs)
     (λ c. record { fits = omega (arith, room (c .before .before .before .before .before .before), c .constants-in .ensures) })
     (λ c. record { fits = omega (arith, few (c .before .before .before .before .before .before)) })

@@ -73,7 +73,7 @@ initialize-slots-spec =
     start
     (λ c. search needs)
     few
-    (λ c κs. search needs)
+    (λ c κs. omega (arith, room (c .before), c .before .before .loop .inv .1))
     (λ c κs. search needs)
     (λ c. let b = c .before .before .before in record { fits = omega (arith, room b, b .before .loop .inv .1, c .constants-in .ensures) })
     (λ c. record { fits = omega (arith, few (c .before .before .before)) })

@@ -4,6 +4,9 @@ use Rattle.planner.specs.Record.{statementRecord}
 use Rattle.planner.proofs.with_statement.Statement.{statement}
 use Rattle.planner.proofs.with_statement.Tie as tie
 
+below : tie.Need-with-slot-requires-2
+below c κs = rw (c .before .value .given .1) at (c .before .before .before .before .before .pre .value-below)
+
 constant : tie.Need-returns
 unfolding statementRecord
 constant c = simp (c .enum-told .given .1) (c .before .before .with-slot .ensures)
@@ -13,4 +16,4 @@ unfolding statementRecord
 variable c = simp (c .before .before .value .given .1) (rw (c .before .before .before .before .with-slot .ensures) at (c .with-slot2 .ensures))
 
 pub with-statement-spec : {M : Type 1} → statement M
-with-statement-spec = tie.close (tie.spec (λ c κs. search needs) (λ c. search needs) (λ c. search needs) (λ c κs. search needs) constant variable)
+with-statement-spec = tie.close (tie.spec (λ c κs. search needs) (λ c. search needs) (λ c. search needs) below constant variable)
