@@ -1,6 +1,6 @@
 -- `increment` meets its contract: each turn of its loop is a law of Turn. The scan number falls at the call; the visits outside that are
--- still to come fall in the loop. Each place that the answers speak of has a name, with the facts that hold there; an answer finds its
--- way back to a place by `search`, as the place's type is its own.
+-- still to come fall in the loop. The places that the answers go back to have names, with the facts that hold there. An answer finds one by
+-- its type, `let h : Head t = search`; only from place to place is the way written out.
 use mathlib.Core.Path.{_≡_, subst, _∙_}
 use mathlib.Core.Bool.{Bool, true}
 use mathlib.Core.List.{List}
@@ -103,7 +103,9 @@ module _ {t : ℕ} (c : Head t) where
   abbrev start : Entry t
   start = entry tabled
 
-  abbrev turn : Turn (tables start) (scans start) (start .args .initial .now) (start .args .iters .now) (start .args .slots .now) (start .args .i) (c .loop .iters) (c .loop .slots)
+  abbrev turn :
+      Turn (tables start) (scans start) (start .args .initial .now) (start .args .iters .now) (start .args .slots .now) (start .args .i)
+      (c .loop .iters) (c .loop .slots)
   turn = c .loop .inv
 
   abbrev its-position : ℕ
