@@ -1,4 +1,5 @@
 pub mod Walk
+pub mod Span
 pub mod Padded
 pub mod Tabled
 pub mod Tests

@@ -1,7 +1,8 @@
 -- Walks over the first n elements of a list, from the front: how a loop over an array with a count meets a definition by recursion on a list.
 use mathlib.Core.Path.{_≡_}
-use Prim.Native.Nat.{ℕ, _+_, _≤_, _<_}
+use Prim.Native.Nat.{ℕ, zero, suc, _+_, _≤_, _<_}
 use mathlib.Core.List.{List, [], _∷_, map, map-append}
+use native.Mathlib.Nat.{le-of-suc-le-suc}
 use native.Mathlib.Numerals.{add-one}
 use native.Mathlib.Omega.{arith}
 use lib.ListN.{length, set, getD, take, drop, drop-of-length-le}
@@ -19,6 +20,11 @@ module _ {A : Type 0} (l : List A) (n : ℕ) (fits : n ≤ length l) where
   walk-end i h =
       let k : length (take n l) ≤ i = simp length-take-le (omega arith) in
       drop-of-length-le (take n l) k
+
+-- what holds of 0, and of one more than each number below n, holds of each below n + 1
+pub each : (P : ℕ → Type 0) (n : ℕ) → P 0 → ((j : ℕ) → j < n → P (suc j)) → (j : ℕ) → j < suc n → P j
+each P n p q zero h = p
+each P n p q (suc j) h = q j (le-of-suc-le-suc h)
 
 -- a list filled from the front with what f makes of another's elements, one element on
 pub map-step : {A B : Type 0} (f : A → B) (xs : List A) (ys : List B) (i : ℕ) (d : A) (v : B) → i < length xs → i < length ys
