@@ -6,6 +6,7 @@ use Prim.Native.Nat.{ℕ, zero, suc, _<_}
 use native.Mathlib.Nat.{not-suc-le-zero, le-of-suc-le-suc}
 use lib.ListN.{length, getD}
 use Rattle.lists.specs.Padded.{padded}
+use Rattle.refusal.specs.Verdict.{firstFault, refuseFirst}
 use Rattle.permutation.specs.Swaps.{elementsFault, stopFrom, cleared, nextOf}
 use Rattle.orders.specs.Lists.{swapped, factorial}
 use Rattle.orders.specs.Listing.{answerAt, listed}
@@ -29,7 +30,7 @@ use Rattle.eval.specs.Evaluation.{evaluationFault, evaluateOf, bufferAfter}
 use Rattle.examples.specs.Table.{scanWords, answer, Line, table, hold}
 
 pub claim : hold table ≡ true
-unfolding table hold answer scanWords sameRow planOf planFault queryFault capacityFault variablesFault constants statementsFault selectsFault unusedFault named boundTwiceFault planFor scansFor scanOf slotsOfConstants padded combinations before costOf flowsFault countsFault outOutFault weightFault weight indexUsed keyUsed searchOf candidates candidatesOf leastFrom factorial span listed answerAt nextOf elementsFault stopFrom cleared swapped rowList visits visited standing each slotsAt matching keep begins row flat evaluateOf bufferAfter evaluationFault checkOf initializationFault scansFault scanFault slotFault isSet written unsetFault planSelectsFault tablesFault missingFault isAmong ascending earlier window
+unfolding table hold answer scanWords sameRow planOf planFault queryFault capacityFault variablesFault constants refuseFirst firstFault statementsFault selectsFault unusedFault named boundTwiceFault planFor scansFor scanOf slotsOfConstants padded combinations before costOf flowsFault countsFault outOutFault weightFault weight indexUsed keyUsed searchOf candidates candidatesOf leastFrom factorial span listed answerAt nextOf elementsFault stopFrom cleared swapped rowList visits visited standing each slotsAt matching keep begins row flat evaluateOf bufferAfter evaluationFault checkOf initializationFault scansFault scanFault slotFault isSet written unsetFault planSelectsFault tablesFault missingFault isAmong ascending earlier window
 claim = refl
 
 -- from the claim, each line

@@ -5,6 +5,7 @@ use Prim.Native.Nat.{ℕ}
 use native.Mathlib.Omega.{arith}
 use Rattle.capacity.specs.Capacity.{maxStatements, maxSelects}
 use Rattle.refusal.specs.declared.Verdict.the-variants.{Fine}
+use Rattle.refusal.specs.Verdict.{firstFault, refuseFirst}
 use Rattle.lists.specs.Padded.{padded}
 use Rattle.lists.proofs.Padded.{padded-length}
 use Rattle.orders.specs.Times.{same, holds, timesIn}
@@ -25,7 +26,7 @@ use Rattle.examples.specs.Bench.{e, overAttribute, triples, noTriples}
 
 -- E is planned
 accepted : planOf e .verdict ≡ Fine
-unfolding planOf planFault queryFault capacityFault variablesFault constants statementsFault selectsFault unusedFault named boundTwiceFault padded
+unfolding planOf planFault queryFault capacityFault variablesFault constants refuseFirst firstFault statementsFault selectsFault unusedFault span named boundTwiceFault padded
 accepted = refl
 
 -- its plan's rows mean it, over any tables that pass their check
@@ -33,11 +34,11 @@ e-means : (ts : Tables) → tablesFault (ts .aevt) (ts .avet) (ts .eavt) ≡ Fin
 e-means ts fine = plan-shown e (padded-length _ maxStatements _) (padded-length _ maxSelects _) accepted initial-plan ts (fine-same ts fine) .meaning
 
 triples-pass : tablesFault (triples .aevt) (triples .avet) (triples .eavt) ≡ Fine
-unfolding tablesFault missingFault isAmong sameRow ascending before row span
+unfolding tablesFault refuseFirst firstFault missingFault isAmong sameRow ascending before row span
 triples-pass = refl
 
 none-pass : tablesFault [] [] [] ≡ Fine
-unfolding tablesFault missingFault ascending span
+unfolding tablesFault refuseFirst firstFault missingFault ascending span
 none-pass = refl
 
 -- a row of 11 counts
@@ -46,7 +47,7 @@ eleven = holds-yes (same (11 ∷ []) (11 ∷ [])) refl
 
 -- 11 stands twice in any rows that mean E over the triples
 pub eleven-twice : (r : List (List ℕ)) → Meaning triples e r → timesIn (11 ∷ []) r ≡ 2
-unfolding timesIn planOf planFault queryFault capacityFault variablesFault constants statementsFault selectsFault unusedFault named boundTwiceFault padded planFor scansFor scanOf slotsOfConstants rowList visits visited standing each slotsAt matching keep begins span row
+unfolding timesIn planOf planFault queryFault capacityFault variablesFault constants refuseFirst firstFault statementsFault selectsFault unusedFault named boundTwiceFault padded planFor scansFor scanOf slotsOfConstants rowList visits visited standing each slotsAt matching keep begins span row
 eleven-twice r m = omega (arith, same-rows m (e-means triples triples-pass) (11 ∷ []), eleven)
 
 pub not-deduplicated : Meaning triples e ((11 ∷ []) ∷ []) → ⊥
@@ -58,7 +59,7 @@ unfolding timesIn
 not-nothing m = omega (arith, eleven-twice _ m)
 
 pub not-copied : Meaning noTriples e ((11 ∷ []) ∷ (11 ∷ []) ∷ []) → ⊥
-unfolding timesIn planOf planFault queryFault capacityFault variablesFault constants statementsFault selectsFault unusedFault named boundTwiceFault padded planFor scansFor scanOf slotsOfConstants rowList visits visited standing each slotsAt matching keep begins span row
+unfolding timesIn planOf planFault queryFault capacityFault variablesFault constants refuseFirst firstFault statementsFault selectsFault unusedFault named boundTwiceFault padded planFor scansFor scanOf slotsOfConstants rowList visits visited standing each slotsAt matching keep begins span row
 not-copied m = omega (arith, same-rows m (e-means noTriples none-pass) (11 ∷ []), eleven)
 
 pub not-another-attribute : Meaning triples e (rowList overAttribute triples) → ⊥

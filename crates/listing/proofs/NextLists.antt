@@ -1,6 +1,6 @@
 -- `next` goes through the plans listed and back to the initial one: what `Listed` says of scans, of the plans that have them.
 use mathlib.Core.Path.{_≡_, refl, ap, _∙_}
-use Prim.Native.Nat.{ℕ, suc, _+_, _≤_, _<_}
+use Prim.Native.Nat.{ℕ, suc, _≤_, _<_}
 use mathlib.Core.List.{List, [], _∷_, append-nil}
 use mathlib.Core.Bool.{Bool, true, false, cond}
 use native.Mathlib.Omega.{arith}
@@ -10,13 +10,14 @@ use lib.Seq.{drop-at, take-at, take-all, length-take-le}
 use lib.Dec.{ltb}
 use Rattle.refusal.specs.declared.Verdict.the-variants.{Fine}
 use Rattle.refusal.proofs.Fine.{or-fine}
+use Rattle.refusal.proofs.First.{each-passes}
 use Rattle.plan.specs.declared.Scan.{Scan}
 use Rattle.plan.specs.declared.Plan.{Plan}
-use Rattle.plan.specs.Plan.{scansOf, countsFault, outOutFault, flowsFault}
+use Rattle.plan.specs.Plan.{zeroScan, scansOf, countsFault, outOutFault, flowsFault}
 use Rattle.listing.specs.Next.{isNewIndex, nextScans, isNewScans, withScans, nextOf}
 use Rattle.listing.specs.Listing.{combinations, Initial}
 use Rattle.listing.proofs.Listed.{listed}
-use Rattle.listing.proofs.SameAccesses.{SameScans, none, more}
+use Rattle.listing.proofs.SameAccesses.{SameScans, same-at}
 use Rattle.listing.proofs.Passes.{same-accesses, same-count, same-scans}
 
 -- stepped scans are as many as before, and a plan that is given as many others has these
@@ -49,8 +50,7 @@ planAt p t = withScans p (getD (combinations (scansOf p)) t [])
 -- none of them is out-out over eavt
 pub same-flows : {ss ts : List Scan} → SameScans ss ts → (i : ℕ) → outOutFault ts i ≡ Fine
 unfolding outOutFault
-same-flows none i = refl
-same-flows (more a b) i = simp (a .not-out-out-eavt) (same-flows b (i + 1))
+same-flows {ts = ts} b i = each-passes _ _ zeroScan i ts .1 (λ j h. same-at b zeroScan j h .not-out-out-eavt)
 
 module _ (p : Plan) (fits : p .«scan_count» ≤ length (p .scans)) (fine : flowsFault p ≡ Fine) where
   -- the plan with other scans of the same cycles

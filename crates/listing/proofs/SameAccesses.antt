@@ -122,7 +122,7 @@ same-take none (suc j) = none
 same-take (more a b) zero = none
 same-take (more a b) (suc j) = more a (same-take b j)
 
-same-at : {ss ts : List Scan} → SameScans ss ts → (d : Scan) (j : ℕ) → j < length ts → SameAccesses (getD ss j d) (getD ts j d)
+pub same-at : {ss ts : List Scan} → SameScans ss ts → (d : Scan) (j : ℕ) → j < length ts → SameAccesses (getD ss j d) (getD ts j d)
 same-at none d j h = absurd (not-suc-le-zero h)
 same-at (more a b) d zero h = a
 same-at (more a b) d (suc j) h = same-at b d j (le-of-suc-le-suc h)

@@ -12,10 +12,11 @@ use Rattle.lists.proofs.Tabled.{tabled-at, tabled-length}
 use Rattle.refusal.specs.declared.Verdict.{Verdict}
 use Rattle.refusal.specs.declared.Verdict.the-variants.{Fine, Refused}
 use Rattle.refusal.proofs.Fine.{or-fine}
+use Rattle.refusal.proofs.First.{each-passes}
 use Rattle.plan.specs.declared.Scan.{Scan}
 use Rattle.plan.specs.declared.Plan.{Plan}
-use Rattle.plan.specs.Plan.{zeroScan, scansOf, countsFault, flowsFault}
-use Rattle.plan.proofs.Counts.{counts-fine, out-out-each}
+use Rattle.plan.specs.Plan.{zeroScan, scansOf, countsFault, outOutFault, flowsFault}
+use Rattle.plan.proofs.Counts.{counts-fine}
 use Rattle.listing.specs.Next.{isNewIndex, nextScans, withScans, nextOf}
 use Rattle.listing.proofs.NextLists.{next-length, with-scans}
 use Rattle.loader_words.specs.Words.{word, planWords, scanAt, planOfWords}
@@ -43,7 +44,7 @@ module _ (ws : List ℕ) where
   next = nextScans (scansOf p)
 
   fine-says : length ws ≡ planWords → flowsFault p ≡ Fine → planOfWords (withIndexes (scansOf (withScans p next)) 0 ws) ≡ withScans p next
-  unfolding flowsFault
+  unfolding flowsFault outOutFault
   fine-says long e =
       let k = p .«scan_count» in
       let faults = or-fine (countsFault k (p .«slot_count») (p .«select_count»)) _ e in
@@ -53,7 +54,7 @@ module _ (ws : List ℕ) where
       let as-many : length next ≡ k = next-length (scansOf p) ∙ front in
       let here : scansOf (withScans p next) ≡ next = with-scans p next (next-length (scansOf p)) in
       let read : (i : ℕ) → i < k → getD (scansOf p) i zeroScan ≡ scanAt ws i = λ i h. getD-take k (p .scans) i zeroScan h ∙ tabled-at (scanAt ws) maxScans i zeroScan (omega arith) in
-      rw here (indexes-say ws next long (omega arith) (λ i h. rw (read i (omega arith)) at (out-out-each (scansOf p) 0 (faults .1) i (omega arith)))
+      rw here (indexes-say ws next long (omega arith) (λ i h. rw (read i (omega arith)) at (each-passes _ _ zeroScan 0 (scansOf p) .0 (faults .1) i (omega arith)))
       (λ i h. rw (read i (omega arith)) at (next-same (scansOf p) i (omega arith))) ∙ rw as-many refl)
 
   -- the words say the next plan, or where it is refused the one that they said

@@ -1,20 +1,21 @@
 -- Verdicts that are given for a reason, and what it says that a statement is high.
-use mathlib.Core.Path.{_≡_, refl}
-use mathlib.Core.Logic.{_⊎_, inl, inr, ⊎-elim}
+use mathlib.Core.Path.{_≡_, refl, _∙_}
+use mathlib.Core.Logic.{_⊎_, inl, inr, ⊎-elim, _↔_}
 use Prim.Native.Nat.{ℕ, _+_, _≤_, _<_}
 use native.Mathlib.Nat.{eq-or-lt-of-le}
 use native.Mathlib.Omega.{arith}
+use mathlib.Core.List.{List}
 use mathlib.Core.Bool.{Bool, true, false, _||_, or-true, false≢true}
-use borrow.Author.Tests.{leb-true, eqb-true, eq-eqb}
+use borrow.Author.Tests.{leb-true, le-leb, eqb-true, eq-eqb}
 use lib.Dec.{leb, eqb}
 use Rattle.refusal.specs.declared.Verdict.{Verdict}
 use Rattle.refusal.specs.declared.Verdict.the-variants.{Fine, Refused}
-use Rattle.refusal.specs.Verdict.{refused, refuseIf, orElse}
+use Rattle.refusal.specs.Verdict.{refused, refuseIf, orElse, refuseFirst, Lowest}
+use Rattle.refusal.proofs.First.{Fails, refused-lowest}
 use Rattle.query.specs.declared.QueryValue.{QueryValue}
 use Rattle.query.specs.declared.QueryValue.the-variants.{Const, Var as Variable}
 use Rattle.query.specs.Query.{isVariable}
 use Rattle.query_check.specs.Refusals.{highValue}
-use Rattle.query_check.specs.Below.{ValueBelow}
 
 -- a verdict is fine, or what is said for a reason
 abbrev pub Explained : {R : Type 0} → (R → Verdict) → Verdict → Type 0
@@ -31,6 +32,12 @@ module _ {R : Type 0} (said : R → Verdict) where
   if-explained true n p f = inr (f refl)
   if-explained false n p f = inl refl
 
+  -- one that is given at the first item that fails a test, where P says of each place that its item does
+  pub first-explained : {A : Type 0} (test : A → Bool) (n : ℕ) (d : A) (P : ℕ → Type 0) (p : ℕ) (xs : List A) → ((j : ℕ) → P j ↔ Fails test d xs j)
+      → ((i : ℕ) → Lowest P i → (w : R) × (refused n (p + i) ≡ said w)) → Explained said (refuseFirst test n p xs)
+  first-explained test n d P p xs fails f =
+      ⊎-elim (λ w. inl (w .0)) (λ w. let r = f (w .0) (w .1) in inr (r .0, w .2 ∙ r .1)) (refused-lowest test n d P p xs fails)
+
 -- one of two tests holds
 pub either : (a b : Bool) → (a || b) ≡ true → (a ≡ true) ⊎ (b ≡ true)
 either true b e = inl refl
@@ -45,11 +52,13 @@ high-names n e (Variable x) h =
     (λ (t : leb n (x .0) ≡ true). (x .0, rw (eq-eqb (x .0) (x .0) refl) (or-true (eqb e (x .0))), leb-true n (x .0) t))
     (either (leb n e) (leb n (x .0)) h)
 
-pub below-names : (n e : ℕ) (v : QueryValue) → e < n → ValueBelow n v → (x : ℕ) → (eqb e x || isVariable v x) ≡ true → n ≤ x → ⊥
-below-names n e (Const c) l b x h g =
-    ⊎-elim (λ (t : eqb e x ≡ true). omega (arith, eqb-true e x t)) (λ (t : _≡_ {A = Bool} false true). false≢true t) (either (eqb e x) false h)
-below-names n e (Variable y) l b x h g =
-    ⊎-elim (λ (t : eqb e x ≡ true). omega (arith, eqb-true e x t)) (λ (t : eqb (y .0) x ≡ true). omega (arith, eqb-true (y .0) x t))
+pub names-high : (n e : ℕ) (v : QueryValue) (x : ℕ) → (eqb e x || isVariable v x) ≡ true → n ≤ x → (leb n e || highValue n v) ≡ true
+names-high n e (Const c) x h g =
+    ⊎-elim (λ (t : eqb e x ≡ true). rw (le-leb n e (omega (arith, eqb-true e x t))) refl) (λ (t : _≡_ {A = Bool} false true). absurd (false≢true t))
+    (either (eqb e x) false h)
+names-high n e (Variable y) x h g =
+    ⊎-elim (λ (t : eqb e x ≡ true). rw (le-leb n e (omega (arith, eqb-true e x t))) refl)
+    (λ (t : eqb (y .0) x ≡ true). rw (le-leb n (y .0) (omega (arith, eqb-true (y .0) x t))) (or-true (leb n e)))
     (either (eqb e x) (eqb (y .0) x) h)
 
 -- one place more

@@ -1,29 +1,29 @@
 -- A refused query has a reason: each of 10 to 16 is given only where its sentence is true, at the lowest place, one of them wherever planning
 -- gives no plan, and none where that of a lower number is true.
-use mathlib.Core.Path.{_≡_, refl, sym, ap, subst, _∙_}
-use mathlib.Core.Logic.{_⊎_, inl, inr, ⊎-elim}
-use Prim.Native.Nat.{ℕ, zero, suc, _+_, _≤_, _<_}
-use native.Mathlib.Numerals.{add-one}
-use native.Mathlib.Nat.{zero-add, add-zero, not-suc-le-zero}
+use mathlib.Core.Path.{_≡_, refl, sym, ap, _∙_}
+use mathlib.Core.Logic.{_⊎_, inl, inr, ⊎-elim, _↔_}
+use Prim.Native.Nat.{ℕ, _+_, _≤_, _<_}
+use native.Mathlib.Nat.{zero-add}
 use native.Mathlib.Omega.{arith}
-use mathlib.Core.List.{List, [], _∷_}
+use mathlib.Core.List.{List, []}
 use mathlib.Core.Bool.{not, false≢true}
-use borrow.Author.Tests.{lt-ltb, ltb-true, leb-true, leb-false, eqb-true, not-true, not-false}
-use lib.ListN.{length, getD, drop, drop-of-length-le}
-use lib.Seq.{drop-cons}
+use borrow.Author.Tests.{lt-ltb, ltb-true, leb-true, le-leb, eqb-true, not-true}
+use lib.ListN.{getD}
 use lib.Dec.{ltb, leb, eqb}
+use Rattle.lists.specs.Span.{span}
+use Rattle.lists.proofs.Span.{length-span, getD-span}
 use Rattle.capacity.specs.Capacity.{maxStatements, maxSlots, maxSelects}
 use Rattle.refusal.specs.declared.Verdict.{Verdict}
 use Rattle.refusal.specs.declared.Verdict.the-variants.{Fine, Refused}
-use Rattle.refusal.specs.Verdict.{refuseIf, unless}
-use Rattle.refusal.proofs.Fine.{refuse-fine, or-fine}
+use Rattle.refusal.specs.Verdict.{refused, refuseIf, unless}
+use Rattle.refusal.proofs.Fine.{or-fine}
+use Rattle.refusal.proofs.First.{Fails, each-passes}
 use Rattle.query.specs.declared.Var.{Var}
 use Rattle.query.specs.declared.Statement.{Statement}
 use Rattle.query.specs.declared.Query.{Query}
 use Rattle.query.specs.Query.{statementsOf, selectsOf, named, zeroVar, zeroStatement}
 use Rattle.query_check.specs.Refusals.{constants, high, statementsFault, selectsFault, unusedFault, capacityFault, variablesFault, queryFault}
 use Rattle.query_check.proofs.Capacity.{Fits, capacity-fine}
-use Rattle.query_check.proofs.Variables.{statements-below}
 use Rattle.plan.specs.declared.Plan.{Plan}
 use Rattle.plan.specs.Plan.{emptyPlan}
 use Rattle.planner.specs.Refusals.{planFault}
@@ -35,8 +35,8 @@ use Rattle.planned.proofs.Passes.{either-verdict}
 use Rattle.meaning.specs.Reasons.{HighStatement, HighSelect, Unnamed, QueryReason, over-statements, over-slots, over-selects, no-selects, high-statement, high-select, unused, queryRefusal, PlanReason, of-query, new-twice, planRefusal, numberOf, PlanningExplained}
 use Rattle.meaning.proofs.Parts.{parts}
 use Rattle.meaning.proofs.Sound.{bound-explained, bound-sound}
-use Rattle.meaning.proofs.Numbers.{if-within, or-within, or-first, if-first, statements-within, selects-within, bound-within, capacity-within, query-within}
-use Rattle.meaning.proofs.Explained.{Explained, or-explained, if-explained, high-names, below-names, below-next}
+use Rattle.meaning.proofs.Numbers.{if-within, or-within, or-first, if-first, first-within, bound-within, capacity-within, query-within}
+use Rattle.meaning.proofs.Explained.{Explained, or-explained, if-explained, first-explained, high-names, names-high}
 
 module _ (q : Query) where
   abbrev n : ℕ
@@ -52,64 +52,45 @@ module _ (q : Query) where
   m = q .«where_statements» .count
 
   -- 14, statements
-  statements-explained : (left i : ℕ) → i + left ≡ length ss → ((j : ℕ) → j < i → HighStatement q j → ⊥)
-      → Explained (queryRefusal {q = q}) (statementsFault n (drop i ss) i)
+  high-fails : (j : ℕ) → HighStatement q j ↔ Fails (high n) zeroStatement ss j
+  high-fails j =
+      let s = getD ss j zeroStatement in (
+        λ w. (w .0, names-high n (s .entity .0) (s .value) (w .1) (w .2) (w .3)),
+        λ f. let w = high-names n (s .entity .0) (s .value) (f .1) in (f .0, w .0, w .1, w .2),
+      )
+
+  statements-explained : Explained (queryRefusal {q = q}) (statementsFault n ss 0)
   unfolding statementsFault
-  statements-explained zero i e h = rw (drop-of-length-le ss {i = i} (omega arith)) (inl refl)
-  statements-explained (suc left) i e h =
-      let low : i < length ss = omega arith in
-      let s = getD ss i zeroStatement in
-      rw (drop-cons ss i zeroStatement low)
-      (or-explained queryRefusal (refuseIf (high n s) 14 i) _
-      (if-explained queryRefusal (high n s) 14 i
-      (λ t.
-      let w = high-names n (s .entity .0) (s .value) t in
-      (high-statement i (record { here = (low, w .0, w .1, w .2); none-lower = h }), refl)))
-      (λ f.
-      subst (λ (k : ℕ). Explained (queryRefusal {q = q}) (statementsFault n (drop k ss) (i + 1))) (add-one i)
-      (statements-explained left (i + 1) (omega arith)
-      (below-next (HighStatement q) i h
-      (λ w.
-      let b = statements-below n (s ∷ []) i (rw (refuse-fine (high n s) 14 i f) refl) 0 s (omega arith) in
-      below-names n (s .entity .0) (s .value) (b .entity-below) (b .value-below) (w .1) (w .2) (w .3))))))
+  statements-explained =
+      first-explained queryRefusal (high n) 14 zeroStatement (HighStatement q) 0 ss high-fails (λ i h. (high-statement i h, ap (refused 14) (zero-add i)))
 
   none-high : statementsFault n ss 0 ≡ Fine → (j : ℕ) → HighStatement q j → ⊥
-  none-high low j w =
-      let s = getD ss j zeroStatement in
-      let b = statements-below n ss 0 low j zeroStatement (w .0) in
-      below-names n (s .entity .0) (s .value) (b .entity-below) (b .value-below) (w .1) (w .2) (w .3)
+  unfolding statementsFault
+  none-high low j w = let f = high-fails j .0 w in false≢true (sym (each-passes _ _ zeroStatement 0 ss .0 low j (f .0)) ∙ f .1)
 
   select-low : selectsFault n vs m ≡ Fine → (j : ℕ) → HighSelect q j → ⊥
   select-low low j w = omega (arith, w .1, selects-below n vs m low j zeroVar (w .0))
 
   -- 14, selects
-  selects-explained : ((j : ℕ) → HighStatement q j → ⊥) → (left i : ℕ) → i + left ≡ length vs → ((j : ℕ) → j < i → HighSelect q j → ⊥)
-      → Explained (queryRefusal {q = q}) (selectsFault n (drop i vs) (m + i))
+  selects-explained : ((j : ℕ) → HighStatement q j → ⊥) → Explained (queryRefusal {q = q}) (selectsFault n vs m)
   unfolding selectsFault
-  selects-explained none zero i e h = rw (drop-of-length-le vs {i = i} (omega arith)) (inl refl)
-  selects-explained none (suc left) i e h =
-      let low : i < length vs = omega arith in
-      let v = getD vs i zeroVar in
-      let next : m + i + 1 ≡ m + (i + 1) = omega arith in
-      rw (drop-cons vs i zeroVar low)
-      (or-explained queryRefusal (refuseIf (leb n (v .0)) 14 (m + i)) _
-      (if-explained queryRefusal (leb n (v .0)) 14 (m + i) (λ t. (high-select none i (record { here = (low, leb-true _ _ t); none-lower = h }), refl)))
-      (λ f.
-      rw next
-      (subst (λ (k : ℕ). Explained (queryRefusal {q = q}) (selectsFault n (drop k vs) (m + (i + 1)))) (add-one i)
-      (selects-explained none left (i + 1) (omega arith)
-      (below-next (HighSelect q) i h (λ w. omega (arith, w .1, leb-false n (v .0) (refuse-fine _ 14 (m + i) f))))))))
+  selects-explained none =
+      first-explained queryRefusal (λ (v : Var). leb n (v .0)) 14 zeroVar (HighSelect q) m vs
+      (λ j. (λ w. (w .0, le-leb _ _ (w .1)), λ f. (f .0, leb-true _ _ (f .1))))
+      (λ i h. (high-select none i h, refl))
 
   -- 15
-  unused-explained : (left v : ℕ) → v + left ≡ n → ((u : ℕ) → u < v → Unnamed q u → ⊥) → Explained (queryRefusal {q = q}) (unusedFault ss left v)
+  unused-explained : Explained (queryRefusal {q = q}) (unusedFault ss n 0)
   unfolding unusedFault
-  unused-explained zero v e h = inl refl
-  unused-explained (suc left) v e h =
-      or-explained queryRefusal (refuseIf (not (named ss v)) 15 v) _
-      (if-explained queryRefusal (not (named ss v)) 15 v (λ t. (unused v (record { here = (omega arith, not-true _ t); none-lower = h }), refl)))
-      (λ f.
-      unused-explained left (v + 1) (omega arith)
-      (below-next (Unnamed q) v h (λ w. false≢true (sym (w .1) ∙ not-false _ (refuse-fine _ 15 v f)))))
+  unused-explained =
+      let long = length-span 0 n in
+      let at : (v : ℕ) → v < n → getD (span 0 n) v 0 ≡ v = λ v h. getD-span 0 n v h ∙ zero-add v in
+      first-explained queryRefusal (λ (v : ℕ). not (named ss v)) 15 0 (Unnamed q) 0 (span 0 n)
+      (λ v. (
+        λ w. (omega (arith, w .0), rw (at v (w .0), w .1) refl),
+        λ f. let l : v < n = omega (arith, f .0) in (l, not-true _ (rw (at v l) at (f .1))),
+      ))
+      (λ v h. (unused v h, ap (refused 15) (zero-add v)))
 
   -- 10 to 13
   capacity-explained : Explained (queryRefusal {q = q}) (capacityFault n m ss (q .select .count))
@@ -130,11 +111,9 @@ module _ (q : Query) where
   query-explained =
       or-explained queryRefusal (capacityFault n m ss (q .select .count)) _ capacity-explained
       (λ _.
-      or-explained queryRefusal (statementsFault n ss 0) _ (statements-explained (length ss) 0 (zero-add _) (λ j l. absurd (not-suc-le-zero l)))
+      or-explained queryRefusal (statementsFault n ss 0) _ statements-explained
       (λ low.
-      or-explained queryRefusal (selectsFault n vs m) _
-      (rw add-zero at (selects-explained (none-high low) (length vs) 0 (zero-add _) (λ j l. absurd (not-suc-le-zero l))))
-      (λ _. unused-explained n 0 (zero-add _) (λ j l. absurd (not-suc-le-zero l)))))
+      or-explained queryRefusal (selectsFault n vs m) _ (selects-explained (none-high low)) (λ _. unused-explained)))
 
   -- and where none is refused, none of the sentences is true
   pub query-sound : queryFault q ≡ Fine → QueryReason q → ⊥
@@ -158,7 +137,7 @@ module _ (q : Query) where
   in-variables k low h = or-within k (capacityFault n m ss (q .select .count)) _ (capacity-within k low n m ss (q .select .count)) h
 
   pub query-first : (w : QueryReason q) → numberOf (queryFault q) ≤ numberOf (queryRefusal w)
-  unfolding variablesFault capacityFault
+  unfolding variablesFault capacityFault statementsFault selectsFault
   query-first (over-statements h) =
       in-capacity 10 (λ f. omega (arith, h, f .few-statements)) (if-first 10 (ltb maxStatements m) 10 0 _ (lt-ltb _ _ h) (omega arith))
   query-first (over-slots h) =
@@ -172,11 +151,11 @@ module _ (q : Query) where
       (if-first 12 (ltb maxSelects (q .select .count)) 12 0 _ (lt-ltb _ _ h) (omega arith))))
   query-first (no-selects h) = in-capacity 13 (λ f. omega (arith, h, f .some-select)) (capacity-within 13 (omega arith) n m ss (q .select .count))
   query-first (high-statement i h) =
-      in-variables 14 (omega arith) (or-first 14 (statementsFault n ss 0) _ (λ e. none-high e i (h .here)) (statements-within 14 (omega arith) n ss 0))
+      in-variables 14 (omega arith) (or-first 14 (statementsFault n ss 0) _ (λ e. none-high e i (h .here)) (first-within 14 (high n) 14 (omega arith) 0 ss))
   query-first (high-select z i h) =
       in-variables 14 (omega arith)
-      (or-within 14 (statementsFault n ss 0) _ (statements-within 14 (omega arith) n ss 0)
-      (or-first 14 (selectsFault n vs m) _ (λ e. select-low e i (h .here)) (selects-within 14 (omega arith) n vs m)))
+      (or-within 14 (statementsFault n ss 0) _ (first-within 14 (high n) 14 (omega arith) 0 ss)
+      (or-first 14 (selectsFault n vs m) _ (λ e. select-low e i (h .here)) (first-within 14 _ 14 (omega arith) m vs)))
   query-first (unused v h) = query-within 15 (omega arith) q
 
   plan-explained : Explained (planRefusal {q = q}) (planFault q)

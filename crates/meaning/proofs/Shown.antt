@@ -1,8 +1,8 @@
 -- Evaluation shows windows of the rows that mean a query, of every plan that `next` reaches from the one that planning makes of it.
 use mathlib.Core.Path.{_≡_, refl, ap, _∙_}
-use Prim.Native.Nat.{ℕ, zero, suc, _+_, _<_, suc-le-suc}
+use Prim.Native.Nat.{ℕ, zero, suc, _+_, _<_}
 use native.Mathlib.Omega.{arith}
-use mathlib.Core.List.{List, [], _∷_}
+use mathlib.Core.List.{List, []}
 use mathlib.Core.Bool.{true, false, false≢true}
 use borrow.Author.Tests.{ne-eqb}
 use lib.ListN.{length, getD, take, length-map}
@@ -10,12 +10,13 @@ use lib.Seq.{length-take-le}
 use lib.Dec.{eqb}
 use Rattle.refusal.specs.declared.Verdict.the-variants.{Fine}
 use Rattle.refusal.proofs.Fine.{or-fine}
+use Rattle.refusal.proofs.First.{each-passes}
 use Rattle.query.specs.declared.Query.{Query}
 use Rattle.query.specs.Query.{statementsOf, selectsOf, named, zeroVar}
 use Rattle.query_check.specs.Clear.{Clear}
 use Rattle.plan.specs.declared.Scan.{Scan}
 use Rattle.plan.specs.declared.Plan.{Plan}
-use Rattle.plan.specs.Plan.{outOutEavt, zeroScan, scansOf, selectsOf as slotsSelected, countsFault, outOutFault, flowsFault}
+use Rattle.plan.specs.Plan.{zeroScan, scansOf, selectsOf as slotsSelected, countsFault, outOutFault, flowsFault}
 use Rattle.plan_check.specs.Check.{checkOf}
 use Rattle.plan_check.proofs.Promises.{promises}
 use Rattle.planner.specs.Planning.{slotOf, planOf}
@@ -46,16 +47,11 @@ fine-same ts e =
     record { aevt-sorted = p .aevt-sorted; avet-sorted = p .avet-sorted; eavt-sorted = p .eavt-sorted; in-avet = p .in-avet; in-eavt = p .in-eavt }
 
 -- 20 and 21 are among what the plan check asks
-no-out-out : (ss : List Scan) (i : ℕ) → ((j : ℕ) → j < length ss → outOutEavt (getD ss j zeroScan .flow) (getD ss j zeroScan .index) ≡ false) → outOutFault ss i ≡ Fine
-unfolding outOutFault
-no-out-out [] i h = refl
-no-out-out (s ∷ ss) i h = rw (h 0 (omega arith)) (no-out-out ss (i + 1) (λ j g. h (suc j) (suc-le-suc g)))
-
 passed-flows : (p : Plan) → checkOf p ≡ Fine → flowsFault p ≡ Fine
-unfolding checkOf flowsFault
+unfolding checkOf flowsFault outOutFault
 passed-flows p e =
     let c = or-fine (countsFault (p .«scan_count») (p .«slot_count») (p .«select_count»)) _ e in
-    rw (c .0) (no-out-out (scansOf p) 0 (λ j h. promises p (unfold checkOf in e) .scans-fit j h .not-out-out-eavt))
+    rw (c .0) (each-passes _ _ zeroScan 0 (scansOf p) .1 (λ j h. promises p (unfold checkOf in e) .scans-fit j h .not-out-out-eavt))
 
 module _ (q : Query) (clear : Clear q) where
   -- a clear query has a statement: something is selected, and what is selected is named

@@ -12,7 +12,7 @@ use lib.ListN.{length, getD, take, drop, drop-of-length-le}
 use lib.Seq.{drop-cons, take-suc}
 use Rattle.refusal.specs.declared.Verdict.{Verdict}
 use Rattle.refusal.specs.declared.Verdict.the-variants.{Fine}
-use Rattle.refusal.specs.Verdict.{refused, refuseIf}
+use Rattle.refusal.specs.Verdict.{refused, refuseIf, Lowest}
 use Rattle.refusal.proofs.Fine.{refuse-fine}
 use Rattle.query.specs.declared.Statement.{Statement}
 use Rattle.query.specs.Query.{isVariable, named, zeroStatement}
@@ -22,7 +22,6 @@ use Rattle.search.specs.Search.{isSound}
 use Rattle.search.proofs.Answer.{sound-fine}
 use Rattle.tables.proofs.Order.{both}
 use Rattle.meaning.specs.Demand.{NewTwice}
-use Rattle.meaning.specs.Reasons.{Lowest}
 use Rattle.meaning.proofs.Explained.{Explained, or-explained, if-explained, below-next}
 
 -- 16 at the lowest statement that binds one variable twice

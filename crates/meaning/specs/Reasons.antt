@@ -8,7 +8,7 @@ use lib.ListN.{length, getD}
 use Rattle.capacity.specs.Capacity.{maxStatements, maxSlots, maxSelects, maxSearched}
 use Rattle.refusal.specs.declared.Verdict.{Verdict}
 use Rattle.refusal.specs.declared.Verdict.the-variants.{Fine, Refused}
-use Rattle.refusal.specs.Verdict.{refused}
+use Rattle.refusal.specs.Verdict.{refused, Lowest}
 use Rattle.query.specs.declared.Query.{Query}
 use Rattle.query.specs.Query.{statementsOf, selectsOf, names, named, zeroVar, zeroStatement}
 use Rattle.query_check.specs.Refusals.{constants}
@@ -16,11 +16,6 @@ use Rattle.plan.specs.Plan.{emptyPlan}
 use Rattle.planner.specs.Planning.{planFor, planOf}
 use Rattle.search.specs.Search.{notFound, searchOf}
 use Rattle.meaning.specs.Demand.{NewTwice, SoundOrder, FirstOfLeast}
-
--- it is so of a place, and of none lower
-pub record Lowest (P : ℕ → Type 0) (i : ℕ) : Type 0 where
-  pub here : P i
-  pub none-lower : (j : ℕ) → j < i → P j → ⊥
 
 -- a variable number not below the variable count, in statement i or as select i
 abbrev pub HighStatement : Query → ℕ → Type 0

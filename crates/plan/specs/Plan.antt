@@ -1,13 +1,12 @@
 -- 01, "How a query becomes a plan" and "Index order of slots": what a plan is made of.
 use mathlib.Core.Path.{_≡_}
-use Prim.Native.Nat.{ℕ, _+_, _≤_}
+use Prim.Native.Nat.{ℕ, _≤_}
 use mathlib.Core.List.{List, [], _∷_}
 use mathlib.Core.Bool.{Bool, true, false, _||_}
 use lib.ListN.{take, replicate}
 use lib.Dec.{ltb, eqb}
 use Rattle.refusal.specs.declared.Verdict.{Verdict}
-use Rattle.refusal.specs.declared.Verdict.the-variants.{Fine}
-use Rattle.refusal.specs.Verdict.{refuseIf, orElse}
+use Rattle.refusal.specs.Verdict.{refuseIf, orElse, refuseFirst}
 use Rattle.capacity.specs.Capacity.{maxScans, maxSlots, maxSelects}
 use Rattle.plan.specs.declared.Slot.{Slot}
 use Rattle.plan.specs.declared.Scan.{Scan}
@@ -128,8 +127,7 @@ pub record Counted (scans slots selects : ℕ) : Type 0 where
 
 -- 21 at the lowest scan from number i on that is out-out over eavt
 unfoldable pub outOutFault : List Scan → ℕ → Verdict
-outOutFault [] i = Fine
-outOutFault (s ∷ ss) i = orElse (refuseIf (outOutEavt (s .flow) (s .index)) 21 i) (outOutFault ss (i + 1))
+outOutFault ss i = refuseFirst (λ (s : Scan). outOutEavt (s .flow) (s .index)) 21 i ss
 
 -- cost and `next` of an array of scans of which so many count: 20 where that is over 48, then 21 at the lowest such scan
 unfoldable pub scanFlowsFault : List Scan → ℕ → Verdict

@@ -1,18 +1,20 @@
 -- A plan passes the check exactly if it is as `Promised` says: part by part, that nothing is refused is what the part promises.
 use mathlib.Core.Path.{_≡_, refl}
 use mathlib.Core.Logic.{_↔_}
-use Prim.Native.Nat.{ℕ, zero, suc, _+_, _<_}
+use Prim.Native.Nat.{ℕ, suc, _+_, _<_}
 use mathlib.Core.List.{List, [], _∷_, _++_, append-nil}
-use mathlib.Core.Bool.{Bool, true, false, not, _||_}
-use native.Mathlib.Nat.{add-zero, zero-add, not-suc-le-zero, le-of-suc-le-suc}
+use mathlib.Core.Bool.{Bool, true, false, _||_}
+use native.Mathlib.Nat.{zero-add, not-suc-le-zero}
 use native.Mathlib.Omega.{arith}
 use borrow.Author.Tests.{leb-false, lt-leb, le-ltb, eqb-false, ne-eqb, not-false}
 use lib.ListN.{length, getD, take}
 use lib.Seq.{append-snoc}
 use lib.Dec.{leb, eqb}
+use Rattle.lists.proofs.Walk.{each}
 use Rattle.refusal.specs.declared.Verdict.the-variants.{Fine}
 use Rattle.refusal.specs.Verdict.{refuseIf}
 use Rattle.refusal.proofs.Fine.{refuse-fine, or-fine}
+use Rattle.refusal.proofs.First.{each-passes, each-number}
 use Rattle.plan.specs.declared.Slot.{Slot}
 use Rattle.plan.specs.declared.Scan.{Scan}
 use Rattle.plan.specs.declared.SlotRecord.{SlotRecord}
@@ -40,11 +42,6 @@ slot-fine n a x set i = (
       (leb-false _ _ (refuse-fine _ _ _ (b .0)), access-fine a set i .0 (b .1)),
   λ h. simp (lt-leb _ _ (h .0), access-fine a set i .1 (h .1)),
 )
-
--- what holds of 0, and of one more than each number below n, holds of each below n + 1
-each : (P : ℕ → Type 0) (n : ℕ) → P 0 → ((j : ℕ) → j < n → P (suc j)) → (j : ℕ) → j < suc n → P j
-each P n p q zero h = p
-each P n p q (suc j) h = q j (le-of-suc-le-suc h)
 
 module _ (slots : List SlotRecord) where
   -- 21 too: the scan fits after those before it
@@ -89,29 +86,16 @@ module _ (slots : List SlotRecord) where
   unset-fine : (scans : List Scan) (left k : ℕ)
       → unsetFault slots scans left k ≡ Fine ↔ ((j : ℕ) → j < left → isSet slots scans (k + j) ≡ true)
   unfolding unsetFault
-  unset-fine scans zero k = (λ e j h. absurd (not-suc-le-zero h), λ f. refl)
-  unset-fine scans (suc left) k =
-      let rest = unset-fine scans left (k + 1) in
-      let on : (j : ℕ) → k + suc j ≡ k + 1 + j = λ j. omega arith in (
-        λ e.
-            let b = or-fine (refuseIf (not (isSet slots scans k)) 25 k) _ e in
-            each (λ j. isSet slots scans (k + j) ≡ true) left
-            (rw add-zero (not-false _ (refuse-fine _ _ _ (b .0))))
-            (λ j h. rw on (rest .0 (b .1) j h)),
-        λ f. simp (rw add-zero at (f 0 (omega arith))) (rest .1 (λ j h. rw on at (f (suc j) (omega arith)))),
-      )
+  unset-fine scans left k =
+      let set = each-number _ _ k k left in
+      (λ e j h. not-false _ (set .0 e j h), λ f. set .1 (λ j h. rw (f j h) refl))
 
 -- 26: each of the selects names one of n slots
 selects-fine : (n : ℕ) (ks : List Slot) (i : ℕ) → selectsFault n ks i ≡ Fine ↔ ((j : ℕ) → j < length ks → getD ks j zeroSlot .0 < n)
 unfolding selectsFault
-selects-fine n [] i = (λ e j h. absurd (not-suc-le-zero h), λ f. refl)
-selects-fine n (k ∷ ks) i =
-    let rest = selects-fine n ks (i + 1) in (
-      λ e.
-          let b = or-fine (refuseIf (leb n (k .0)) 26 i) _ e in
-          each (λ j. getD (k ∷ ks) j zeroSlot .0 < n) (length ks) (leb-false _ _ (refuse-fine _ _ _ (b .0))) (rest .0 (b .1)),
-      λ f. simp (lt-leb _ _ (f 0 (omega arith))) (rest .1 (λ j h. f (suc j) (omega arith))),
-    )
+selects-fine n ks i =
+    let named = each-passes _ _ zeroSlot i ks in
+    (λ e j h. leb-false _ _ (named .0 e j h), λ f. named .1 (λ j h. lt-leb _ _ (f j h)))
 
 -- what a caller has of a plan that passes
 pub promises : (p : Plan) → checkOf p ≡ Fine → Promised p

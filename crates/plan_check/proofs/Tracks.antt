@@ -1,17 +1,19 @@
 -- The record tracks `isSet`: its entry for a slot says whether the slot is set after the scans so far; so it decides as the definitions do.
 use mathlib.Core.Path.{_≡_, refl, sym, _∙_}
-use Prim.Native.Nat.{ℕ, zero, suc, _+_, _≤_, _<_}
+use Prim.Native.Nat.{ℕ, _+_, _≤_, _<_}
 use mathlib.Core.List.{List, [], _∷_, _++_, append-nil}
-use mathlib.Core.Bool.{Bool, true, false, not, _||_, or-false, or-true, or-assoc}
+use mathlib.Core.Bool.{Bool, true, false, _||_, or-false, or-true, or-assoc}
+use native.Mathlib.Nat.{zero-add}
 use native.Mathlib.Omega.{arith}
 use borrow.Author.Tests.{leb-false, eqb-true, eqb-false}
-use lib.ListN.{length, getD, set, take, drop, length-set, List·getD-map}
-use lib.Seq.{getD-take, getD-set-same, getD-set-other, append-snoc}
+use lib.ListN.{length, getD, set, take, length-set, List·getD-map}
+use lib.Seq.{getD-take, length-take-le, getD-set-same, getD-set-other, append-snoc}
 use lib.Dec.{leb, eqb}
-use Rattle.lists.proofs.Walk.{walk-step, walk-end}
-use Rattle.refusal.specs.declared.Verdict.{Verdict}
-use Rattle.refusal.specs.Verdict.{refuseIf, orElse}
+use Rattle.lists.specs.Span.{span}
+use Rattle.lists.proofs.Span.{length-span, getD-span}
+use Rattle.refusal.specs.Verdict.{orElse}
 use Rattle.refusal.proofs.Fine.{or-else-assoc}
+use Rattle.refusal.proofs.First.{first-agree}
 use Rattle.plan.specs.declared.Slot.{Slot}
 use Rattle.plan.specs.declared.Scan.{Scan}
 use Rattle.plan.specs.declared.SlotRecord.{SlotRecord}
@@ -94,27 +96,20 @@ module _ (slots : List SlotRecord) (before : List Scan) {rec : List Initializati
       let after = access-tracks between (secondAccess (s .flow)) (secondSlot s) in
       record { fits = after .fits; says = λ k h. rw (set-more slots before s k) (after .says k h) }
 
--- 25, of slot k and those after it
-unset-first : (b : Bool) (l : List Initialization) (v : Verdict) (k : ℕ) → unsetFaultIn l (k + 1) ≡ v
-    → unsetFaultIn (stateOf b ∷ l) k ≡ orElse (refuseIf (not b) 25 k) v
-unset-first false l v k e = refl
-unset-first true l v k e = e
-
--- 25, of so many slots from number k on
+-- 25
 unset-tracks : (slots : List SlotRecord) (scans : List Scan) {n : ℕ} {rec : List Initialization} → Tracks n rec (isSet slots scans)
-    → (left k : ℕ) → k + left ≡ n → unsetFaultIn (drop k (take n rec)) k ≡ unsetFault slots scans left k
+    → unsetFaultIn (take n rec) 0 ≡ unsetFault slots scans n 0
 unfolding unsetFault
-unset-tracks slots scans {n} {rec} t zero k e = rw (walk-end rec n (t .fits) k (omega arith))
-unset-tracks slots scans {n} {rec} t (suc left) k e =
-    let rest = unset-tracks slots scans t left (k + 1) (omega arith) in
-    rw (walk-step rec n (t .fits) Unset k (omega arith), t .says k (omega arith))
-    (unset-first (isSet slots scans k) (drop (k + 1) (take n rec)) _ k rest)
+unset-tracks slots scans {n} {rec} t =
+    let long : length (take n rec) ≡ n = length-take-le n rec (t .fits) in
+    first-agree _ _ Unset _ 0 0 (take n rec) (span 0 n) (long ∙ sym (length-span 0 n))
+    (λ k h. let l : k < n = omega arith in rw (getD-take n rec k Unset l, t .says k l, said, getD-span 0 n k l, zero-add) refl)
 
 -- the scans from number i on, and then the slots that stay unset
 scans-track : (slots : List SlotRecord) (before ss : List Scan) {rec : List Initialization} (i : ℕ) → Tracks (length slots) rec (isSet slots before)
     → scansFaultIn (length slots) rec ss i ≡ orElse (scansFault slots before ss i) (unsetFault slots (before ++ ss) (length slots) 0)
 unfolding scansFault
-scans-track slots before [] i t = rw append-nil (unset-tracks slots before t (length slots) 0 (omega arith))
+scans-track slots before [] i t = rw append-nil (unset-tracks slots before t)
 scans-track slots before (s ∷ ss) i t =
     let rest = scans-track slots (before ++ (s ∷ [])) ss (i + 1) (record-tracks slots before t s) in
     rw (scan-tracks slots before t s i, rest, append-snoc, or-else-assoc)

@@ -1,13 +1,14 @@
 -- 01, "Refusal numbers": the plan check gives 20, 13, then scan by scan (21; then for each of its two slots in index order 22, then 23
 -- or 24), then 25, 26.
-use Prim.Native.Nat.{ℕ, zero, suc, _+_}
+use Prim.Native.Nat.{ℕ, _+_}
 use mathlib.Core.List.{List, [], _∷_, _++_}
 use mathlib.Core.Bool.{Bool, true, false, not, _||_}
 use lib.ListN.{length, getD}
 use lib.Dec.{leb, eqb}
+use Rattle.lists.specs.Span.{span}
 use Rattle.refusal.specs.declared.Verdict.{Verdict}
 use Rattle.refusal.specs.declared.Verdict.the-variants.{Fine}
-use Rattle.refusal.specs.Verdict.{refused, refuseIf, orElse}
+use Rattle.refusal.specs.Verdict.{refused, refuseIf, orElse, refuseFirst}
 use Rattle.plan.specs.declared.Slot.{Slot}
 use Rattle.plan.specs.declared.Scan.{Scan}
 use Rattle.plan.specs.declared.SlotRecord.{SlotRecord}
@@ -61,16 +62,14 @@ scansFault slots before (s ∷ ss) i = orElse (scanFault slots before s i) (scan
 
 -- 25: the lowest of so many slots from number k on that is never set
 unfoldable pub unsetFault : List SlotRecord → List Scan → ℕ → ℕ → Verdict
-unsetFault slots scans zero k = Fine
-unsetFault slots scans (suc left) k = orElse (refuseIf (not (isSet slots scans k)) 25 k) (unsetFault slots scans left (k + 1))
+unsetFault slots scans left k = refuseFirst (λ (j : ℕ). not (isSet slots scans j)) 25 k (span k left)
 
 unfoldable pub initializationFault : List SlotRecord → List Scan → Verdict
 initializationFault slots scans = orElse (scansFault slots [] scans 0) (unsetFault slots scans (length slots) 0)
 
 -- 26: the lowest select from number i on that names none of n slots
 unfoldable pub selectsFault : ℕ → List Slot → ℕ → Verdict
-selectsFault n [] i = Fine
-selectsFault n (k ∷ ks) i = orElse (refuseIf (leb n (k .0)) 26 i) (selectsFault n ks (i + 1))
+selectsFault n ks i = refuseFirst (λ (k : Slot). leb n (k .0)) 26 i ks
 
 -- the plan check
 unfoldable pub checkOf : Plan → Verdict

@@ -2,12 +2,11 @@
 -- proofs/Tracks.antt shows that the record says what `isSet` says.
 use Prim.Native.Nat.{ℕ, _+_}
 use mathlib.Core.List.{List, [], _∷_, map}
-use mathlib.Core.Bool.{Bool, true, false}
+use mathlib.Core.Bool.{Bool, true, false, not}
 use lib.ListN.{getD, set, take}
 use lib.Dec.{leb}
 use Rattle.refusal.specs.declared.Verdict.{Verdict}
-use Rattle.refusal.specs.declared.Verdict.the-variants.{Fine}
-use Rattle.refusal.specs.Verdict.{refused, refuseIf, orElse}
+use Rattle.refusal.specs.Verdict.{refuseIf, orElse, refuseFirst}
 use Rattle.plan.specs.declared.Slot.{Slot}
 use Rattle.plan.specs.declared.Scan.{Scan}
 use Rattle.plan.specs.declared.SlotRecord.{SlotRecord}
@@ -51,9 +50,7 @@ scanFaultIn n rec s i =
 
 -- 25, as the record says
 abbrev pub unsetFaultIn : List Initialization → ℕ → Verdict
-unsetFaultIn [] k = Fine
-unsetFaultIn (Unset ∷ rec) k = refused 25 k
-unsetFaultIn (Set ∷ rec) k = unsetFaultIn rec (k + 1)
+unsetFaultIn rec k = refuseFirst (λ (s : Initialization). not (isSetState s)) 25 k rec
 
 -- the scans from number i on, and then the slots that stay unset
 abbrev pub scansFaultIn : ℕ → List Initialization → List Scan → ℕ → Verdict

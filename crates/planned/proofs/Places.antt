@@ -2,16 +2,15 @@
 use mathlib.Core.Path.{_≡_, refl, ap, _∙_}
 use Prim.Native.Nat.{ℕ, zero, suc, _+_, _<_}
 use mathlib.Core.List.{List, [], _∷_, _++_, append-nil}
-use mathlib.Core.Bool.{true, false, not}
+use mathlib.Core.Bool.{true, false}
 use native.Mathlib.Nat.{add-zero, add-assoc, not-suc-le-zero, le-of-suc-le-suc}
-use native.Mathlib.Omega.{arith}
 use borrow.Author.Tests.{leb-false, not-false}
 use lib.ListN.{length, getD, take}
 use lib.Seq.{append-snoc}
-use lib.Dec.{leb}
 use Rattle.refusal.specs.declared.Verdict.the-variants.{Fine}
 use Rattle.refusal.specs.Verdict.{refuseIf}
 use Rattle.refusal.proofs.Fine.{refuse-fine, or-fine}
+use Rattle.refusal.proofs.First.{each-passes, each-number}
 use Rattle.query.specs.declared.Var.{Var}
 use Rattle.query.specs.declared.Statement.{Statement}
 use Rattle.query.specs.Query.{named}
@@ -47,15 +46,9 @@ bound-once before (s ∷ l) i e (suc j) d h =
 -- 14: each select names a variable
 pub selects-below : (n : ℕ) (vs : List Var) (i : ℕ) → selectsFault n vs i ≡ Fine → (j : ℕ) (d : Var) → j < length vs → getD vs j d .0 < n
 unfolding selectsFault
-selects-below n [] i e j d h = absurd (not-suc-le-zero h)
-selects-below n (v ∷ vs) i e zero d h = leb-false _ _ (refuse-fine _ _ _ (or-fine (refuseIf (leb n (v .0)) 14 i) _ e .0))
-selects-below n (v ∷ vs) i e (suc j) d h = selects-below n vs (i + 1) (or-fine (refuseIf (leb n (v .0)) 14 i) _ e .1) j d (le-of-suc-le-suc h)
+selects-below n vs i e j d h = leb-false _ _ (each-passes _ _ d i vs .0 e j h)
 
 -- 15: each variable is named
 pub all-named : (ss : List Statement) (left v : ℕ) → unusedFault ss left v ≡ Fine → (j : ℕ) → j < left → named ss (v + j) ≡ true
 unfolding unusedFault
-all-named ss zero v e j h = absurd (not-suc-le-zero h)
-all-named ss (suc left) v e zero h = rw add-zero (not-false _ (refuse-fine _ _ _ (or-fine (refuseIf (not (named ss v)) 15 v) _ e .0)))
-all-named ss (suc left) v e (suc j) h =
-    let on : v + suc j ≡ v + 1 + j = omega arith in
-    rw on (all-named ss left (v + 1) (or-fine (refuseIf (not (named ss v)) 15 v) _ e .1) j (le-of-suc-le-suc h))
+all-named ss left v e j h = not-false _ (each-number _ _ v v left .0 e j h)

@@ -1,17 +1,15 @@
 -- What it says that the variables of statements and selects are fine.
 use mathlib.Core.Path.{_≡_}
-use Prim.Native.Nat.{ℕ, zero, suc, _+_, _≤_, _<_}
+use Prim.Native.Nat.{ℕ, _≤_, _<_}
 use native.Mathlib.Omega.{arith}
-use native.Mathlib.Nat.{not-suc-le-zero, le-of-suc-le-suc}
-use mathlib.Core.List.{List, [], _∷_}
+use mathlib.Core.List.{List}
 use mathlib.Core.Bool.{false}
 use borrow.Author.Tests.{leb-false}
 use lib.ListN.{length, getD}
 use lib.Dec.{leb}
 use Rattle.lists.proofs.Tests.{neither}
 use Rattle.refusal.specs.declared.Verdict.the-variants.{Fine}
-use Rattle.refusal.specs.Verdict.{refuseIf}
-use Rattle.refusal.proofs.Fine.{refuse-fine, or-fine}
+use Rattle.refusal.proofs.First.{each-passes}
 use Rattle.query.specs.declared.QueryValue.{QueryValue}
 use Rattle.query.specs.declared.QueryValue.the-variants.{Const, Var as Variable}
 use Rattle.query.specs.declared.Statement.{Statement}
@@ -25,11 +23,10 @@ value-low n (Variable x) e = leb-false _ _ e
 -- each statement names variables below the count
 pub statements-below : (n : ℕ) (ss : List Statement) (i : ℕ) → statementsFault n ss i ≡ Fine → (j : ℕ) (d : Statement) → j < length ss → Below n (getD ss j d)
 unfolding statementsFault
-statements-below n [] i e j d h = absurd (not-suc-le-zero h)
-statements-below n (s ∷ ss) i e zero d h =
-    let o = neither (leb n (s .entity .0)) (highValue n (s .value)) (refuse-fine _ _ _ (or-fine (refuseIf (high n s) 14 i) _ e .0)) in
+statements-below n ss i e j d h =
+    let s = getD ss j d in
+    let o = neither (leb n (s .entity .0)) (highValue n (s .value)) (each-passes (high n) 14 d i ss .0 e j h) in
     record { entity-below = leb-false _ _ (o .0); value-below = value-low n (s .value) (o .1) }
-statements-below n (s ∷ ss) i e (suc j) d h = statements-below n ss (i + 1) (or-fine (refuseIf (high n s) 14 i) _ e .1) j d (le-of-suc-le-suc h)
 
 -- and below what is no less
 value-more : (n m : ℕ) → n ≤ m → (v : QueryValue) → ValueBelow n v → ValueBelow m v

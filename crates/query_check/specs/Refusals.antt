@@ -1,12 +1,12 @@
 -- 01, "Refusal numbers": what planning and the search refuse of a query, 10 to 15 ascending, within a number the lowest place.
-use Prim.Native.Nat.{ℕ, zero, suc, _+_}
+use Prim.Native.Nat.{ℕ, _+_}
 use mathlib.Core.List.{List, [], _∷_}
 use mathlib.Core.Bool.{Bool, false, not, _||_}
 use lib.Dec.{ltb, leb, eqb}
 use Rattle.capacity.specs.Capacity.{maxStatements, maxSlots, maxSelects}
+use Rattle.lists.specs.Span.{span}
 use Rattle.refusal.specs.declared.Verdict.{Verdict}
-use Rattle.refusal.specs.declared.Verdict.the-variants.{Fine}
-use Rattle.refusal.specs.Verdict.{refuseIf, orElse}
+use Rattle.refusal.specs.Verdict.{refuseIf, orElse, refuseFirst}
 use Rattle.query.specs.declared.Var.{Var}
 use Rattle.query.specs.declared.QueryValue.{QueryValue}
 use Rattle.query.specs.declared.QueryValue.the-variants.{Const, Var as Variable}
@@ -33,17 +33,14 @@ high n s = leb n (s .entity .0) || highValue n (s .value)
 
 -- 14 at the lowest statement from number i on that does, and at the lowest select
 unfoldable pub statementsFault : ℕ → List Statement → ℕ → Verdict
-statementsFault n [] i = Fine
-statementsFault n (s ∷ ss) i = orElse (refuseIf (high n s) 14 i) (statementsFault n ss (i + 1))
+statementsFault n ss i = refuseFirst (high n) 14 i ss
 
 unfoldable pub selectsFault : ℕ → List Var → ℕ → Verdict
-selectsFault n [] i = Fine
-selectsFault n (v ∷ vs) i = orElse (refuseIf (leb n (v .0)) 14 i) (selectsFault n vs (i + 1))
+selectsFault n vs i = refuseFirst (λ (v : Var). leb n (v .0)) 14 i vs
 
 -- 15 at the lowest of so many variables from v on that is in no statement
 unfoldable pub unusedFault : List Statement → ℕ → ℕ → Verdict
-unusedFault ss zero v = Fine
-unusedFault ss (suc left) v = orElse (refuseIf (not (named ss v)) 15 v) (unusedFault ss left (v + 1))
+unusedFault ss left v = refuseFirst (λ (u : ℕ). not (named ss u)) 15 v (span v left)
 
 -- 10: over 48 statements; 11: variables + constants over 96; 12: over 32 selects; 13: no selects
 unfoldable pub capacityFault : ℕ → ℕ → List Statement → ℕ → Verdict

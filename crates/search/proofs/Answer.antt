@@ -16,7 +16,7 @@ use Rattle.refusal.specs.Verdict.{refused}
 use Rattle.lists.specs.Padded.{padded}
 use Rattle.lists.proofs.Padded.{padded-take, padded-other}
 use Rattle.orders.specs.Lists.{upTo, OrderOf}
-use Rattle.orders.proofs.Lists.{length-span}
+use Rattle.lists.proofs.Span.{length-span}
 use Rattle.query.specs.declared.Query.{Query}
 use Rattle.query.specs.declared.Statement.{Statement}
 use Rattle.query.specs.Query.{statementsOf}

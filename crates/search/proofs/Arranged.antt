@@ -7,19 +7,19 @@ use native.Mathlib.Omega.{arith}
 use native.Mathlib.Decide.{ℕ-discrete}
 use borrow.Author.Tests.{eq-eqb, ne-eqb, lt-ltb, ltb-true, ltb-false}
 use mathlib.Core.List.{List, [], _∷_, _++_}
-use mathlib.Core.Bool.{Bool, true, false, _||_}
+use mathlib.Core.Bool.{Bool, true, false, not, _||_}
 use lib.ListN.{length, getD, length-append, length-map}
 use lib.Seq.{ext-getD}
 use lib.Dec.{ltb}
 use Rattle.lists.specs.Span.{span}
+use Rattle.lists.proofs.Span.{length-span, getD-span}
 use Rattle.refusal.specs.declared.Verdict.the-variants.{Fine}
-use Rattle.refusal.specs.Verdict.{refuseIf}
-use Rattle.refusal.proofs.Fine.{refuse-fine, or-fine}
+use Rattle.refusal.proofs.First.{each-passes, first-agree}
 use Rattle.orders.specs.Lists.{upTo, one, times, OrderOf}
-use Rattle.orders.proofs.Lists.{times-append, length-span}
+use Rattle.orders.proofs.Lists.{times-append}
 use Rattle.query.specs.declared.Statement.{Statement}
 use Rattle.query.specs.Query.{names, named, zeroStatement}
-use Rattle.query_check.specs.Refusals.{constantsIn, constants, high, statementsFault, unusedFault}
+use Rattle.query_check.specs.Refusals.{constantsIn, constants, statementsFault, unusedFault}
 use Rattle.search.specs.Search.{arranged}
 
 unfoldable pub sum : (ℕ → ℕ) → List ℕ → ℕ
@@ -59,12 +59,6 @@ sum-order f (a ∷ x) y o = go (parted a y (omega (arith, o .each a, ap one (eq-
         omega (arith, s, sum-append f u w, sum-append f u (a ∷ w), ap (sum f) e)
 
 -- the statements in their own order
-getD-span : (a m i : ℕ) → i < m → getD (span a m) i 0 ≡ a + i
-unfolding span
-getD-span a zero i h = absurd (not-suc-le-zero h)
-getD-span a (suc m) zero h = omega arith
-getD-span a (suc m) (suc i) h = getD-span (a + 1) m i (le-of-suc-le-suc h) ∙ omega arith
-
 getD-arranged : (ss : List Statement) (o : List ℕ) (i : ℕ) → i < length o → getD (arranged ss o) i zeroStatement ≡ getD ss (getD o i 0) zeroStatement
 getD-arranged ss [] i h = absurd (not-suc-le-zero h)
 getD-arranged ss (x ∷ o) zero h = refl
@@ -109,23 +103,6 @@ pub many-order : (f : Statement → Bool) (ss : List Statement) (o : List ℕ) �
 many-order f ss o order =
     many-sum f ss o ∙ sym (sum-order _ (upTo (length ss)) o order) ∙ sym (many-sum f ss (upTo (length ss))) ∙ ap (many f) (arranged-all ss)
 
--- 14 asks that no statement is high
-one-none : (b : Bool) → one b ≡ 0 → b ≡ false
-one-none false e = refl
-one-none true e = absurd (omega arith)
-
-low-none : (n : ℕ) (ss : List Statement) (i : ℕ) → statementsFault n ss i ≡ Fine → many (high n) ss ≡ 0
-unfolding many statementsFault
-low-none n [] i e = refl
-low-none n (s ∷ ss) i e =
-    let o = or-fine (refuseIf (high n s) 14 i) _ e in
-    omega (arith, low-none n ss (i + 1) (o .1), ap one (refuse-fine (high n s) 14 i (o .0)))
-
-none-low : (n : ℕ) (ss : List Statement) (i : ℕ) → many (high n) ss ≡ 0 → statementsFault n ss i ≡ Fine
-unfolding many statementsFault
-none-low n [] i e = refl
-none-low n (s ∷ ss) i e = rw (one-none (high n s) (omega (arith, e))) (none-low n ss (i + 1) (omega (arith, e)))
-
 -- a number that stands in an order is one of those below
 times-at : (o : List ℕ) (i : ℕ) → i < length o → 1 ≤ times (getD o i 0) o
 unfolding times
@@ -151,8 +128,14 @@ module _ (ss : List Statement) (o : List ℕ) (order : OrderOf (upTo (length ss)
   pub length-order : length (arranged ss o) ≡ length ss
   length-order = length-map o (λ j. getD ss j zeroStatement) ∙ order .long ∙ length-span 0 (length ss)
 
+  -- 14 asks that no statement is high
   pub statements-order : (n : ℕ) → statementsFault n ss 0 ≡ Fine → statementsFault n (arranged ss o) 0 ≡ Fine
-  statements-order n e = none-low n (arranged ss o) 0 (many-order (high n) ss o order ∙ low-none n ss 0 e)
+  unfolding statementsFault
+  statements-order n e =
+      each-passes _ _ zeroStatement 0 (arranged ss o) .1
+      (λ i h.
+      let l : i < length o = omega (arith, length-map o (λ j. getD ss j zeroStatement)) in
+      rw (getD-arranged ss o i l) (each-passes _ _ zeroStatement 0 ss .0 e (getD o i 0) (order-below (length ss) o order i l)))
 
   pub constants-order : constants (arranged ss o) ≡ constants ss
   constants-order = constants-sum ss o ∙ sym (sum-order _ (upTo (length ss)) o order) ∙ sym (constants-sum ss (upTo (length ss))) ∙ ap constants (arranged-all ss)
@@ -164,5 +147,4 @@ module _ (ss : List Statement) (o : List ℕ) (order : OrderOf (upTo (length ss)
 
   pub unused-order : (left v : ℕ) → unusedFault (arranged ss o) left v ≡ unusedFault ss left v
   unfolding unusedFault
-  unused-order zero v = refl
-  unused-order (suc left) v = rw (named-order v, unused-order left (v + 1))
+  unused-order left v = first-agree _ _ 0 _ 0 v (span v left) (span v left) refl (λ j h. ap not (named-order (getD (span v left) j 0)))

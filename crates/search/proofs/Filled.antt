@@ -12,7 +12,7 @@ use Rattle.capacity.specs.Capacity.{maxStatements, maxSearched}
 use Rattle.lists.specs.Padded.{padded}
 use Rattle.lists.proofs.Padded.{padded-length, padded-none, padded-more}
 use Rattle.orders.specs.Lists.{upTo}
-use Rattle.orders.proofs.Lists.{length-span}
+use Rattle.lists.proofs.Span.{length-span}
 use Rattle.query.specs.declared.Statement.{Statement}
 use Rattle.query.specs.Query.{zeroStatement}
 use Rattle.search.specs.Search.{arranged}

@@ -17,7 +17,8 @@ use Rattle.permutation.specs.Swaps.{given, start, elementsFault, freshOf, nextO
 use Rattle.orders.specs.Lists.{swapped, upTo, factorial}
 use Rattle.orders.specs.Heap.{heap}
 use Rattle.orders.specs.Listing.{answerAt, answerIn}
-use Rattle.orders.proofs.Lists.{length-span, length-swapped, swapped-append, order-swapped, order-refl, order-trans}
+use Rattle.lists.proofs.Span.{length-span}
+use Rattle.orders.proofs.Lists.{length-swapped, swapped-append, order-swapped, order-refl, order-trans}
 use Rattle.orders.proofs.Act.{visits, Within, within-heap, length-heap}
 use Rattle.orders.proofs.Machine.{Follows, follows-start}
 use Rattle.orders.proofs.Listed.{listed-visits}

@@ -1,19 +1,21 @@
 -- Three tables pass the check exactly if they are sorted and hold the same facts.
-use mathlib.Core.Path.{_≡_, refl}
-use mathlib.Core.Logic.{⊎-elim}
+use mathlib.Core.Path.{_≡_, refl, ap, _∙_}
+use mathlib.Core.Logic.{_↔_}
 use mathlib.Core.Bool.{Bool, true, not, _&&_}
-use mathlib.Core.List.{List, map}
-use Prim.Native.Nat.{ℕ, zero, suc, _+_, _%_, _≤_, _<_}
+use mathlib.Core.List.{List}
+use Prim.Native.Nat.{ℕ, _%_, _<_}
 use native.Mathlib.Omega.{arith}
-use native.Mathlib.Nat.{eq-or-lt-of-le}
+use native.Mathlib.Nat.{zero-add}
 use borrow.Author.Tests.{eqb-true, eq-eqb, not-false}
-use lib.ListN.{length, getD}
+use lib.ListN.{length, getD, length-map, List·getD-map}
 use lib.Dec.{eqb}
 use Rattle.refusal.specs.declared.Verdict.the-variants.{Fine}
 use Rattle.refusal.specs.Verdict.{refuseIf}
 use Rattle.refusal.proofs.Fine.{refuse-fine, or-fine}
+use Rattle.refusal.proofs.First.{each-passes}
 use Rattle.datom.specs.Fact.{Fact, words, aevtRow, avetRow, eavtRow}
 use Rattle.lists.specs.Span.{span}
+use Rattle.lists.proofs.Span.{length-span, getD-span}
 use Rattle.tables.specs.Rows.{count, row, rowsOf, ascending, factOf}
 use Rattle.tables.specs.Check.{isAmong, lengthsFault, orderFault, missingFault, tablesFault}
 use Rattle.tables.specs.Passed.{Sorted, Passed}
@@ -36,25 +38,17 @@ lengths-fine a b c e =
 abbrev Found : List (List ℕ) → List (List ℕ) → List ℕ → Type 0
 Found av ea r = (isAmong (avetRow (factOf r)) av ≡ true) × (isAmong (eavtRow (factOf r)) ea ≡ true)
 
-module _ (av ea : List (List ℕ)) (f : ℕ → List ℕ) where
-  -- 3: none is missing
-  missing-fine : (s n p : ℕ) → missingFault av ea (map f (span s n)) p ≡ Fine → (i : ℕ) → s ≤ i → i < s + n → Found av ea (f i)
-  unfolding missingFault span
-  missing-fine s zero p e i l h = absurd (omega arith)
-  missing-fine s (suc n) p e i l h =
-      let a = isAmong (avetRow (factOf (f s))) av in
-      let b = isAmong (eavtRow (factOf (f s))) ea in
-      let v = or-fine (refuseIf (not (a && b)) 3 p) _ e in
-      ⊎-elim (λ (q : s ≡ i). rw q at (both a b (held (a && b) 3 p (v .0))))
-      (λ (q : s < i). missing-fine (s + 1) n (p + 1) (v .1) i (omega arith) (omega arith))
-      (eq-or-lt-of-le l)
-
-  fine-missing : (s n p : ℕ) → ((i : ℕ) → s ≤ i → i < s + n → Found av ea (f i)) → missingFault av ea (map f (span s n)) p ≡ Fine
-  unfolding missingFault span
-  fine-missing s zero p h = refl
-  fine-missing s (suc n) p h =
-      let a = h s (omega arith) (omega arith) in
-      simp (a .0, a .1) (fine-missing (s + 1) n (p + 1) (λ i l g. h i (omega arith) (omega arith)))
+-- 3: none is missing
+missing-fine : (av ea : List (List ℕ)) (ae : List ℕ) → missingFault av ea (rowsOf ae) 0 ≡ Fine ↔ ((i : ℕ) → i < count ae → Found av ea (row ae i))
+unfolding missingFault
+missing-fine av ea ae =
+    let found = each-passes _ _ (row ae 0) 0 (rowsOf ae) in
+    let at : (i : ℕ) → i < count ae → getD (rowsOf ae) i (row ae 0) ≡ row ae i =
+    λ i h. List·getD-map (row ae) (span 0 (count ae)) i 0 ∙ ap (row ae) (getD-span 0 (count ae) i h ∙ zero-add i) in
+    let long : length (rowsOf ae) ≡ count ae = length-map (span 0 (count ae)) (row ae) ∙ length-span 0 (count ae) in (
+      λ e i h. both _ _ (not-false _ (rw (at i h) at (found .0 e i (omega arith)))),
+      λ f. found .1 (λ i h. let g = f i (omega arith) in rw (at i (omega arith), g .0, g .1) refl),
+    )
 
 -- the other tables' rows tell facts apart as aevt's do
 avet-apart : (f h : Fact) → avetRow f ≡ avetRow h → aevtRow f ≡ aevtRow h
@@ -83,7 +77,7 @@ module _ (ae av ea : List ℕ) where
       let aevt = held (ascending (rowsOf ae)) 2 0 (b .0) in
       let avet = held (ascending (rowsOf av)) 2 1 (c .0) in
       let eavt = held (ascending (rowsOf ea)) 2 2 (d .0) in
-      let found = missing-fine (rowsOf av) (rowsOf ea) (row ae) 0 (count ae) 0 (d .1) in
+      let found = missing-fine (rowsOf av) (rowsOf ea) ae .0 (d .1) in
       record {
         aevt-sorted = record { whole = lengths .0; ascends = aevt };
         avet-sorted = record { whole = rw (lengths .1) (lengths .0); ascends = avet };
@@ -93,8 +87,8 @@ module _ (ae av ea : List ℕ) where
         aevt-once = ascending-once ae aevt;
         avet-once = ascending-once av avet;
         eavt-once = ascending-once ea eavt;
-        in-avet = same-facts ae avetRow avet-apart aevt av (λ i h. found i (omega arith) (omega arith) .0) (omega arith);
-        in-eavt = same-facts ae eavtRow eavt-apart aevt ea (λ i h. found i (omega arith) (omega arith) .1) (omega arith);
+        in-avet = same-facts ae avetRow avet-apart aevt av (λ i h. found i h .0) (omega arith);
+        in-eavt = same-facts ae eavtRow eavt-apart aevt ea (λ i h. found i h .1) (omega arith);
       }
 
   -- sorted tables that hold the same facts pass the check
@@ -112,4 +106,4 @@ module _ (ae av ea : List ℕ) where
       let m : length av ≡ length ae = omega arith in
       let n : length ea ≡ length ae = omega arith in
       simp (eq-eqb _ _ (a .whole), eq-eqb _ _ m, eq-eqb _ _ n, a .ascends, v .ascends, e .ascends)
-      (fine-missing (rowsOf av) (rowsOf ea) (row ae) 0 (count ae) 0 (λ i l h. (avet i (omega arith), eavt i (omega arith))))
+      (missing-fine (rowsOf av) (rowsOf ea) ae .1 (λ i h. (avet i h, eavt i h)))

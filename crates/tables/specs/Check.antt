@@ -1,12 +1,11 @@
 -- 01, "Refusal numbers": the check of three tables gives 1, 2, 3.
-use Prim.Native.Nat.{ℕ, _+_, _%_}
+use Prim.Native.Nat.{ℕ, _%_}
 use mathlib.Core.List.{List, [], _∷_}
 use mathlib.Core.Bool.{Bool, true, false, not, _&&_, _||_}
 use lib.ListN.{length}
 use lib.Dec.{eqb}
 use Rattle.refusal.specs.declared.Verdict.{Verdict}
-use Rattle.refusal.specs.declared.Verdict.the-variants.{Fine}
-use Rattle.refusal.specs.Verdict.{refuseIf, orElse}
+use Rattle.refusal.specs.Verdict.{refuseIf, orElse, refuseFirst}
 use Rattle.datom.specs.Fact.{words, avetRow, eavtRow}
 use Rattle.tables.specs.Rows.{rowsOf, ascending, factOf}
 
@@ -32,9 +31,8 @@ orderFault t place = refuseIf (not (ascending (rowsOf t))) 2 place
 
 -- 3: the first aevt row, from number i on, whose triple is missing in avet or eavt
 unfoldable pub missingFault : List (List ℕ) → List (List ℕ) → List (List ℕ) → ℕ → Verdict
-missingFault avet eavt [] i = Fine
-missingFault avet eavt (r ∷ rs) i =
-    orElse (refuseIf (not (isAmong (avetRow (factOf r)) avet && isAmong (eavtRow (factOf r)) eavt)) 3 i) (missingFault avet eavt rs (i + 1))
+missingFault avet eavt rs i =
+    refuseFirst (λ (r : List ℕ). not (isAmong (avetRow (factOf r)) avet && isAmong (eavtRow (factOf r)) eavt)) 3 i rs
 
 -- the check: 1; 2 at place 0 aevt, 1 avet, 2 eavt, the first such; 3
 unfoldable pub tablesFault : List ℕ → List ℕ → List ℕ → Verdict

@@ -1,19 +1,21 @@
 -- `check_scan_flows` meets its contract: the count's refusal, else what is left from scan i on gives the answer of the whole.
-use mathlib.Core.Path.{_≡_, sym, _∙_}
-use Prim.Native.Nat.{_≤_, _-_, _+_}
-use mathlib.Core.List.{_∷_}
+use mathlib.Core.Path.{_≡_, refl, sym, _∙_}
+use Prim.Native.Nat.{_-_}
 use native.Mathlib.Omega.{arith}
 use borrow.Author.Needs.{needs}
 use borrow.Author.Tests.{lt-ltb, le-ltb}
-use lib.ListN.{length, getD, take, drop}
+use lib.ListN.{length, take}
 use Rattle.capacity.specs.Capacity.{maxScans}
-use Rattle.lists.proofs.Walk.{walk-step, walk-end}
-use Rattle.plan.specs.Plan.{zeroScan, outOutFault, scanFlowsFault}
+use Rattle.refusal.specs.Verdict.{refuseIf, refuseFirst}
+use Rattle.refusal.proofs.First.{Walked, walked-on, walked-found, walked-done}
+use Rattle.plan.specs.declared.Scan.{Scan}
+use Rattle.plan.specs.Plan.{outOutEavt, zeroScan, outOutFault, scanFlowsFault}
 use Rattle.plan.proofs.check_scan_flows.Statement.{statement}
 use Rattle.plan.proofs.check_scan_flows.Tie as tie
 
 abbrev Inv : tie.InvT-loop
-Inv k scans i₀ i = (i ≤ k) × (scanFlowsFault scans k ≡ outOutFault (drop i (take k scans)) i)
+Inv k scans i₀ i =
+    Walked (λ j (s : Scan). refuseIf (outOutEavt (s .flow) (s .index)) 21 j) scans k 0 i i × (scanFlowsFault scans k ≡ outOutFault (take k scans) 0)
 
 abbrev μ : tie.MeasureT-loop
 μ k scans i₀ i = k - i
@@ -24,34 +26,27 @@ over c = simp (lt-ltb _ _ (c .before .if1 .taken)) (c .refuse .ensures)
 
 start : tie.Need-loop-holds Inv μ
 unfolding scanFlowsFault
-start c = (omega arith, simp (le-ltb _ _ (c .if1 .left)))
-
-turn : (c : tie.In-loop Inv μ) →
-    let a = c .before .before .before .args in let i = c .before .loop .i-scan in
-    scanFlowsFault (a .t1) (a .scan-count) ≡ outOutFault (getD (a .t1) i zeroScan ∷ drop (i + 1) (take (a .scan-count) (a .t1))) i
-turn c =
-    let a = c .before .before .before .args in
-    let h : length (a .t1) ≡ maxScans = search needs in
-    rw (walk-step (a .t1) (a .scan-count) (omega arith) zeroScan (c .before .loop .i-scan) (c .loop-test .taken)) at (c .before .loop .inv .1)
+start c =
+    let h : length (c .before .args .t1) ≡ maxScans = search needs in
+    (record { within = omega arith; fits = omega arith; rest = refl }, simp (le-ltb _ _ (c .if1 .left)))
 
 found : tie.Need-returns-2 Inv μ
-unfolding outOutFault
+unfolding outOutFault refuseFirst
 found c =
     let b = c .before .before in
-    c .refuse2 .ensures ∙ sym (simp (sym (b .is-out-out-eavt .ensures) ∙ c .before .if2 .taken) at (turn (b .before .before)))
+    let w = b .before .before in
+    c .refuse2 .ensures ∙
+    sym (w .before .loop .inv .1 ∙ walked-found (w .before .loop .inv .0) zeroScan (w .loop-test .taken) (rw (sym (b .is-out-out-eavt .ensures) ∙ c .before .if2 .taken) refl))
 
 again : tie.Need-loop-again Inv μ
-unfolding outOutFault
 again c =
     let b = c .before in
-    (omega arith, simp (sym (b .is-out-out-eavt .ensures) ∙ c .if2 .left) at (turn (b .before .before)))
+    let w = b .before .before in
+    (walked-on (w .before .loop .inv .0) zeroScan (w .loop-test .taken) (rw (sym (b .is-out-out-eavt .ensures) ∙ c .if2 .left) refl), w .before .loop .inv .1)
 
 done : tie.Need-returns-3 Inv μ
-unfolding outOutFault
-done c =
-    let a = c .before .before .before .args in
-    let h : length (a .t1) ≡ maxScans = search needs in
-    sym (rw (walk-end (a .t1) (a .scan-count) (omega arith) (c .before .loop .i-scan) (c .loop-test .left)) at (c .before .loop .inv .1))
+unfolding outOutFault refuseFirst
+done c = sym (c .before .loop .inv .1 ∙ walked-done (c .before .loop .inv .0) (c .loop-test .left))
 
 pub check-scan-flows-spec : {M : Type 1} → statement M
 check-scan-flows-spec =

@@ -1,36 +1,37 @@
 -- `check_all_set` meets its contract: what is left of the record from slot i on gives the answer of the whole.
 use mathlib.Core.Path.{_≡_, refl, sym, _∙_}
-use Prim.Native.Nat.{_≤_, _-_, _+_}
-use mathlib.Core.List.{_∷_}
+use Prim.Native.Nat.{_-_}
+use mathlib.Core.Bool.{not}
 use native.Mathlib.Omega.{arith}
 use borrow.Author.Needs.{needs}
-use lib.ListN.{length, getD, take, drop}
+use lib.ListN.{length}
 use Rattle.capacity.specs.Capacity.{maxSlots}
-use Rattle.lists.proofs.Walk.{walk-step, walk-end}
+use Rattle.refusal.specs.Verdict.{refuseIf, refuseFirst}
+use Rattle.refusal.proofs.First.{Walked, walked-on, walked-found, walked-done}
+use Rattle.plan_check.specs.declared.Initialization.{Initialization}
 use Rattle.plan_check.specs.declared.Initialization.the-variants.{Unset}
-use Rattle.plan_check.specs.Record.{unsetFaultIn}
+use Rattle.plan_check.specs.Record.{isSetState}
 use Rattle.plan_check.proofs.check_all_set.Statement.{statement}
 use Rattle.plan_check.proofs.check_all_set.Tie as tie
 
 abbrev Inv : tie.InvT-loop
-Inv n rec i₀ i = (i ≤ n) × (unsetFaultIn (take n rec) 0 ≡ unsetFaultIn (drop i (take n rec)) i)
+Inv n rec i₀ i = Walked (λ j (s : Initialization). refuseIf (not (isSetState s)) 25 j) rec n 0 i i
 
 abbrev μ : tie.MeasureT-loop
 μ n rec i₀ i = n - i
 
-turn : (c : tie.In-loop Inv μ) →
-    let a = c .before .before .args in let i = c .before .loop .i-slot in
-    unsetFaultIn (take (a .slot-count) (a .t2)) 0 ≡ unsetFaultIn (getD (a .t2) i Unset ∷ drop (i + 1) (take (a .slot-count) (a .t2))) i
-turn c =
-    let a = c .before .before .args in
-    let h : length (a .t2) ≡ maxSlots = search needs in
-    rw (walk-step (a .t2) (a .slot-count) (omega arith) Unset (c .before .loop .i-slot) (c .loop-test .taken)) at (c .before .loop .inv .1)
+found : tie.Need-returns Inv μ
+unfolding refuseFirst
+found c =
+    let w = c .before .before .before .before in
+    c .refuse .ensures ∙ sym (walked-found (w .before .loop .inv) Unset (w .loop-test .taken) (rw (c .before .enum-told .given .1) refl))
+
+again : tie.Need-loop-again Inv μ
+again c = let w = c .before .before .before in walked-on (w .before .loop .inv) Unset (w .loop-test .taken) (rw (c .enum-told2 .given .1) refl)
 
 done : tie.Need-returns-2 Inv μ
-done c =
-    let a = c .before .before .args in
-    let h : length (a .t2) ≡ maxSlots = search needs in
-    sym (rw (walk-end (a .t2) (a .slot-count) (omega arith) (c .before .loop .i-slot) (c .loop-test .left)) at (c .before .loop .inv .1))
+unfolding refuseFirst
+done c = sym (walked-done (c .before .loop .inv) (c .loop-test .left))
 
 pub check-all-set-spec : {M : Type 1} → statement M
 check-all-set-spec =
@@ -38,13 +39,13 @@ check-all-set-spec =
     (tie.spec
     Inv
     μ
-    (λ c. (omega arith, refl))
+    (λ c. let h : length (c .args .t2) ≡ maxSlots = search needs in record { within = omega arith; fits = omega arith; rest = refl })
     (λ c. search needs)
     (λ c. search needs)
     (λ c κs. search needs)
-    (λ c. c .refuse .ensures ∙ sym (rw (c .before .enum-told .given .1) at (turn (c .before .before .before .before))))
+    found
     (λ c. search needs)
     (λ c. search needs)
     (λ c. search needs)
-    (λ c. (omega arith, rw (c .enum-told2 .given .1) at (turn (c .before .before .before))))
+    again
     done)

@@ -4,6 +4,8 @@ use Prim.Native.Nat.{suc, _≤_, _-_, _+_}
 use native.Mathlib.Omega.{arith}
 use borrow.Author.Needs.{needs}
 use lib.ListN.{take}
+use Rattle.lists.specs.Span.{span}
+use Rattle.refusal.specs.Verdict.{firstFault, refuseFirst}
 use Rattle.query_check.specs.Refusals.{unusedFault}
 use Rattle.query_check.proofs.check_all_named.Statement.{statement}
 use Rattle.query_check.proofs.check_all_named.Tie as tie
@@ -23,17 +25,17 @@ turn c =
     rw e at (c .before .loop .inv .1)
 
 again : tie.Need-loop-again Inv μ
-unfolding unusedFault
+unfolding unusedFault refuseFirst firstFault span
 again c = (omega arith, simp (sym (c .before .is-named .ensures) ∙ c .if1 .taken) at (turn (c .before .before)))
 
 found : tie.Need-returns Inv μ
-unfolding unusedFault
+unfolding unusedFault refuseFirst firstFault span
 found c =
     let b = c .before .before in
     c .refuse .ensures ∙ sym (simp (sym (b .is-named .ensures) ∙ c .before .if1 .left) at (turn (b .before)))
 
 done : tie.Need-returns-2 Inv μ
-unfolding unusedFault
+unfolding unusedFault refuseFirst firstFault span
 done c =
     let a = c .before .before .args in
     let e : a .variables - c .before .loop .v ≡ 0 = omega arith in

@@ -8,7 +8,7 @@ use native.Mathlib.Nat.{sub-zero}
 use borrow.Author.Needs.{needs}
 use borrow.Author.Tests.{not-true, not-false}
 use lib.ListN.{getD}
-use Rattle.refusal.specs.Verdict.{refuseIf, orElse}
+use Rattle.refusal.specs.Verdict.{refuseIf, orElse, firstFault, refuseFirst}
 use Rattle.datom.specs.Fact.{words}
 use Rattle.lists.specs.Span.{span}
 use Rattle.tables.specs.Rows.{count, row, rowsOf}
@@ -37,7 +37,7 @@ turn : (c : tie.In-loop Inv μ) →
     missingFault av ea (rowsOf ae) 0 ≡
     orElse (refuseIf (not (isAmong (at ∷ va ∷ en ∷ []) av && isAmong (en ∷ at ∷ va ∷ []) ea)) 3 i)
     (missingFault av ea (map (row ae) (span (i + 1) (count ae - (i + 1)))) (i + 1))
-unfolding missingFault
+unfolding missingFault refuseFirst firstFault
 turn c =
     let a = c .before .before .before .before .before .args in
     let i = c .before .loop .i in
@@ -84,7 +84,7 @@ again c =
     )
 
 done : tie.Need-returns-3 Inv μ
-unfolding missingFault
+unfolding missingFault refuseFirst firstFault
 done c =
     let a = c .before .before .before .before .before .args in
     sym (rw (span-end (count (a .aevt .now)) (c .before .loop .i) (omega arith)) at (c .before .loop .inv .1))
