@@ -14,7 +14,7 @@ use Rattle.ask_opening.specs.Opening.{openingOf, Opens}
 use Rattle.ask_opening.proofs.Said.{tables-are}
 use Rattle.visits.specs.Visits.{Tables, tablesOf}
 use Rattle.ask_rows.specs.declared.Window.{Window}
-use Rattle.ask_rows.specs.Windows.{Shows}
+use Rattle.ask_rows.specs.Windows.{ShowsWindow}
 use Rattle.ask_rows.proofs.Shown.{falls}
 use Rattle.ask_answer.specs.declared.Part.{Part}
 use Rattle.ask_answer.specs.Answer.{rowsAsked}
@@ -33,10 +33,10 @@ begins o e f g = record {
 
 -- the next window of rows, over the items of the tables' parts
 pub goes-on : {ws a b c rows out rows′ out′ : List ℕ} (p : Part) {q : Parts} {w : Window} → q ≡ partsOf ws → a ≡ itemsOf ws (q .aevt) → b ≡ itemsOf ws (q .avet) → c ≡ itemsOf ws (q .eavt)
-    → Shows (p .plan) (tablesOf a b c) (p .from) (p .left) rows out w rows′ out′ → GoesOn ws p rows out (partOf (p .plan) w) rows′ out′
+    → ShowsWindow (p .plan) (tablesOf a b c) (p .from) (p .left) rows out w rows′ out′ → GoesOn ws p rows out (partOf (p .plan) w) rows′ out′
 unfolding nextPart
 goes-on {ws} {a} {b} {c} {rows} {out} {rows′} {out′} p {q} {w} e f g h s =
-    let t = subst (λ (ts : Tables). Shows (p .plan) ts (p .from) (p .left) rows out w rows′ out′) (tables-are ws q e a b c f g h) s in
+    let t = subst (λ (ts : Tables). ShowsWindow (p .plan) ts (p .from) (p .left) rows out w rows′ out′) (tables-are ws q e a b c f g h) s in
     record { part-is = ap (partOf (p .plan)) (t .answer-is); rows-are = t .rows-are; out-is = t .out-is; fits = t .fits }
 
 -- a run ends: with each part fewer are to come

@@ -9,7 +9,7 @@ use lib.ListN.{length, take, drop, set, length-append, length-set, drop-of-lengt
 use lib.Seq.{take-all, take-at, take-suc-set, drop-at, drop-drop, set-split, length-take-le}
 use borrow.Author.Tests.{le-leb, lt-leb}
 use Rattle.ask_numbers.specs.declared.Read.{Read}
-use Rattle.ask_numbers.specs.Words.{Said, before, end, outside, said, readFrom, over, readOf, wordsAfter}
+use Rattle.ask_numbers.specs.Words.{Said, inFront, end, outside, said, readFrom, over, readOf, wordsAfter}
 
 abbrev none : Read
 none = record { inside = false; count = 0 }
@@ -21,21 +21,21 @@ no-room false b x y h = refl
 module _ (ws buffer : List ℕ) (s : Said) where
   module _ (room : length ws ≤ length buffer) where
     -- all was said
-    pub ends-answer : s ≡ before ws end → record { inside = true; count = length ws } ≡ readFrom s (length buffer)
+    pub ends-answer : s ≡ inFront ws end → record { inside = true; count = length ws } ≡ readFrom s (length buffer)
     unfolding readFrom
     ends-answer e = rw (e, append-nil, le-leb (length ws) (length buffer) room)
 
-    pub over-all : (b : Said) → b .words ≡ [] → s ≡ before ws b → ws ++ drop (length ws) buffer ≡ over (s .words) buffer
+    pub over-all : (b : Said) → b .words ≡ [] → s ≡ inFront ws b → ws ++ drop (length ws) buffer ≡ over (s .words) buffer
     unfolding over
     over-all b n e = rw (e, n, append-nil, take-all (length buffer) ws room)
 
   -- the text is outside the layout
-  pub leaves-answer : s ≡ before ws outside → none ≡ readFrom s (length buffer)
+  pub leaves-answer : s ≡ inFront ws outside → none ≡ readFrom s (length buffer)
   unfolding readFrom
   leaves-answer e = rw e
 
   -- there is no room for one more
-  module _ (v : ℕ) (t : Said) (full : length ws ≡ length buffer) (e : s ≡ before ws (before (v ∷ []) t)) where
+  module _ (v : ℕ) (t : Said) (full : length ws ≡ length buffer) (e : s ≡ inFront ws (inFront (v ∷ []) t)) where
     pub full-answer : none ≡ readFrom s (length buffer)
     unfolding readFrom
     full-answer =
@@ -71,7 +71,7 @@ pub record SoFar (text buffer words : List ℕ) (at count : ℕ) : Type 0 where
   pub within : at ≤ length text
   pub room : count ≤ length buffer
   pub as-long : length words ≡ length buffer
-  pub rest : said text ≡ before (take count words) (said (drop at text))
+  pub rest : said text ≡ inFront (take count words) (said (drop at text))
   pub front : words ≡ take count words ++ drop count buffer
 
 pub none-yet : (text buffer : List ℕ) → SoFar text buffer buffer 0 0
@@ -90,28 +90,28 @@ module _ {text buffer words : List ℕ} {at count : ℕ} (f : SoFar text buffer 
   pub so-far-ends : said (drop at text) ≡ end
       → _≡_ {A = Read} (record { inside = true; count = count }) (readOf text (length buffer)) × (words ≡ wordsAfter text buffer)
   so-far-ends e =
-      let s : said text ≡ before (take count words) end = rw e at (f .rest) in (
+      let s : said text ≡ inFront (take count words) end = rw e at (f .rest) in (
         rw counted at (ends-answer (take count words) buffer (said text) fits s),
         front-is ∙ over-all (take count words) buffer (said text) fits end refl s,
       )
 
   pub so-far-leaves : said (drop at text) ≡ outside → (none ≡ readOf text (length buffer)) × (words ≡ wordsAfter text buffer)
   so-far-leaves e =
-      let s : said text ≡ before (take count words) outside = rw e at (f .rest) in
+      let s : said text ≡ inFront (take count words) outside = rw e at (f .rest) in
       (leaves-answer (take count words) buffer (said text) s, front-is ∙ over-all (take count words) buffer (said text) fits outside refl s)
 
-  pub so-far-full : (v : ℕ) (t : Said) → length buffer ≤ count → said (drop at text) ≡ before (v ∷ []) t
+  pub so-far-full : (v : ℕ) (t : Said) → length buffer ≤ count → said (drop at text) ≡ inFront (v ∷ []) t
       → (none ≡ readOf text (length buffer)) × (words ≡ wordsAfter text buffer)
   so-far-full v t h e =
-      let s : said text ≡ before (take count words) (before (v ∷ []) t) = rw e at (f .rest) in
+      let s : said text ≡ inFront (take count words) (inFront (v ∷ []) t) = rw e at (f .rest) in
       let l : length (take count words) ≡ length buffer = omega (arith, counted, f .room) in
       (full-answer (take count words) buffer (said text) v t l s, front-is ∙ full-over (take count words) buffer (said text) v t l s)
 
-  pub so-far-more : (v next : ℕ) → count < length words → next ≤ length text → said (drop at text) ≡ before (v ∷ []) (said (drop next text))
+  pub so-far-more : (v next : ℕ) → count < length words → next ≤ length text → said (drop at text) ≡ inFront (v ∷ []) (said (drop next text))
       → SoFar text buffer (set words count v) next (count + 1)
   so-far-more v next h n e =
       let t : take (count + 1) (set words count v) ≡ take count words ++ (v ∷ []) = rw (add-one, take-suc-set words count v h) in
-      let s : said text ≡ before (take count words) (before (v ∷ []) (said (drop next text))) = rw e at (f .rest) in
+      let s : said text ≡ inFront (take count words) (inFront (v ∷ []) (said (drop next text))) = rw e at (f .rest) in
       record {
         within = n;
         room = omega (arith, f .as-long);

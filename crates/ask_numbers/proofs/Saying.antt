@@ -6,7 +6,7 @@ use Prim.Native.Nat.{ℕ, _+_, _-_, _≤_, _<_}
 use native.Mathlib.Numerals.{add-one}
 use lib.ListN.{length, drop, getD, drop-of-length-le}
 use lib.Seq.{drop-cons}
-use Rattle.ask_numbers.specs.Words.{space, digit, digitValue, longer, goesOn, said, saidAfter, end, outside, before}
+use Rattle.ask_numbers.specs.Words.{space, digit, digitValue, longer, goesOn, said, saidAfter, end, outside, inFront}
 
 module _ (text : List ℕ) (i : ℕ) where
   -- at the end
@@ -15,7 +15,7 @@ module _ (text : List ℕ) (i : ℕ) where
     unfolding said
     said-end = rw (drop-of-length-le text h)
 
-    pub after-end : (v : ℕ) → saidAfter (drop i text) v ≡ before (v ∷ []) (said (drop i text))
+    pub after-end : (v : ℕ) → saidAfter (drop i text) v ≡ inFront (v ∷ []) (said (drop i text))
     unfolding said
     after-end v = rw (drop-of-length-le text h)
 
@@ -34,7 +34,7 @@ module _ (text : List ℕ) (i : ℕ) where
     unfolding said
     said-other s d = rw (drop-cons text i 0 h, s, d)
 
-    pub after-space : (v : ℕ) → space (getD text i 0) ≡ true → saidAfter (drop i text) v ≡ before (v ∷ []) (said (drop i text))
+    pub after-space : (v : ℕ) → space (getD text i 0) ≡ true → saidAfter (drop i text) v ≡ inFront (v ∷ []) (said (drop i text))
     unfolding said
     after-space v s = simp (drop-cons text i 0 h, s)
 

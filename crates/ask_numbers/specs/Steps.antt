@@ -4,7 +4,7 @@ use Prim.Native.Nat.{ℕ, _+_, _≤_, _<_}
 use mathlib.Core.Bool.{Bool, true, false}
 use mathlib.Core.List.{List, [], _∷_}
 use lib.ListN.{length, drop, getD}
-use Rattle.ask_numbers.specs.Words.{Said, space, said, saidAfter, before, outside}
+use Rattle.ask_numbers.specs.Words.{Said, space, said, saidAfter, inFront, outside}
 
 -- spaces were passed over, up to r
 pub record Skipped (text : List ℕ) (start r : ℕ) : Type 0 where
@@ -17,7 +17,7 @@ pub record Skipped (text : List ℕ) (start r : ℕ) : Type 0 where
 pub record Reads (text : List ℕ) (s : Said) (start : ℕ) (inside : Bool) (value next : ℕ) : Type 0 where
   pub onward : inside ≡ true → start ≤ next
   pub within : inside ≡ true → next ≤ length text
-  pub reads : inside ≡ true → s ≡ before (value ∷ []) (said (drop next text))
+  pub reads : inside ≡ true → s ≡ inFront (value ∷ []) (said (drop next text))
   pub leaves : inside ≡ false → s ≡ outside
 
 abbrev pub NumberFrom : List ℕ → ℕ → Bool → ℕ → ℕ → Type 0

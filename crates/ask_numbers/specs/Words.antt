@@ -41,8 +41,8 @@ abbrev pub outside : Said
 outside = record { inside = false; words = [] }
 
 -- numbers in front of those of the rest
-abbrev pub before : List ℕ → Said → Said
-before vs s = record { inside = s .inside; words = vs ++ s .words }
+abbrev pub inFront : List ℕ → Said → Said
+inFront vs s = record { inside = s .inside; words = vs ++ s .words }
 
 -- what bytes say that begin between numbers; and those that follow digits which read as v
 unfoldable mutual
@@ -51,8 +51,8 @@ unfoldable mutual
   said (b ∷ bs) = cond (space b) (said bs) (cond (digit b) (saidAfter bs (digitValue b)) outside)
 
   pub saidAfter : List ℕ → ℕ → Said
-  saidAfter [] v = before (v ∷ []) end
-  saidAfter (b ∷ bs) v = cond (space b) (before (v ∷ []) (said bs)) (cond (goesOn v b) (saidAfter bs (longer v b)) outside)
+  saidAfter [] v = inFront (v ∷ []) end
+  saidAfter (b ∷ bs) v = cond (space b) (inFront (v ∷ []) (said bs)) (cond (goesOn v b) (saidAfter bs (longer v b)) outside)
 
 -- whether all is in the layout and there is room for its numbers, and how many there are; else none
 unfoldable pub readFrom : Said → ℕ → Read

@@ -21,7 +21,7 @@ use Rattle.ask_lines.specs.Lines.{refusalLine, costLine}
 use Rattle.ask_lines.proofs.Lengths.{refusal-short, cost-short}
 use Rattle.plan_text.specs.declared.Formatted.{Formatted}
 use Rattle.plan_text.specs.Text.{textOf}
-use Rattle.plan_text.specs.Answer.{textFault, formattedOf, bufferAfter}
+use Rattle.plan_text.specs.Answer.{textFault, formattedOf, textAfter}
 use Rattle.plan_text.proofs.Answers.{text-fits}
 use Rattle.visits.specs.Visits.{tablesOf}
 use Rattle.eval.specs.Evaluation.{evaluationFault}
@@ -140,15 +140,15 @@ module _ (p : Plan) (cost : ℕ) (names ends l : List ℕ) (word : cost < 2 ^ 64
   abbrev text : List ℕ
   text = textOf p names ends
 
-  text-written : Written text 0 l (formattedOf p names ends (length l) .length) (bufferAfter p names ends l)
-  unfolding formattedOf bufferAfter
+  text-written : Written text 0 l (formattedOf p names ends (length l) .length) (textAfter p names ends l)
+  unfolding formattedOf textAfter
   text-written =
       let f = wider p names ends (length l - costBytes) (length l) fine (omega arith) in
       let short : length text ≤ length l = text-fits p names ends (length l) f .1 in
       let start : 0 + length text ≡ length text = omega arith in
       rw f (record { position-is = omega arith; buffer-is = sym (sets-eq text l 0 (omega arith) ∙ ap (λ (k : ℕ). text ++ drop k l) start); within = (omega arith, held) })
 
-  pub opening-written : (r : Formatted) (l₁ l₂ : List ℕ) (n : ℕ) → r ≡ formattedOf p names ends (length l) → l₁ ≡ bufferAfter p names ends l
+  pub opening-written : (r : Formatted) (l₁ l₂ : List ℕ) (n : ℕ) → r ≡ formattedOf p names ends (length l) → l₁ ≡ textAfter p names ends l
       → Written (costLine cost) (r .length) l₁ n l₂ → Line (text ++ costLine cost) l n l₂
   opening-written r l₁ l₂ n e f w =
       let whole : Written (text ++ costLine cost) 0 l n l₂ = written-then text-written (rw (e, f) at w) in

@@ -21,42 +21,42 @@ use Rattle.query.specs.declared.Query.{Query}
 use Rattle.query.specs.Query.{largest, zeroVar, zeroStatement}
 use Rattle.ask_question.specs.declared.Parts.{Parts}
 use Rattle.ask_question.specs.Parts.{itemsOf, areBytes}
-use Rattle.ask_question.specs.Asked.{varOf, valueOf, statementOf, statementsOf, selectsOf, queryWith, bytesFit, bytesAfter, endOf}
+use Rattle.ask_question.specs.Asked.{askedVar, askedValue, askedStatement, askedStatements, askedSelects, queryWith, bytesFit, bytesAfter, endOf}
 
-pub var-past : (n : ℕ) → largest < n → record { 0 = largest } ≡ varOf n
-unfolding varOf
+pub var-past : (n : ℕ) → largest < n → record { 0 = largest } ≡ askedVar n
+unfolding askedVar
 var-past n h = let e : largest ≡ min n largest = omega arith in ap (λ (k : ℕ). record { 0 = k }) e
 
-pub var-below : (n : ℕ) → n ≤ largest → record { 0 = n } ≡ varOf n
-unfolding varOf
+pub var-below : (n : ℕ) → n ≤ largest → record { 0 = n } ≡ askedVar n
+unfolding askedVar
 var-below n h = let e : n ≡ min n largest = omega arith in ap (λ (k : ℕ). record { 0 = k }) e
 
-pub value-variable : (k v : ℕ) (x : Var) → k ≡ 0 → x ≡ varOf v → Variable x ≡ valueOf k v
-unfolding valueOf
+pub value-variable : (k v : ℕ) (x : Var) → k ≡ 0 → x ≡ askedVar v → Variable x ≡ askedValue k v
+unfolding askedValue
 value-variable k v x h e = rw (eq-eqb k 0 h, e)
 
-pub value-constant : (k v : ℕ) → (k ≡ 0 → ⊥) → Const v ≡ valueOf k v
-unfolding valueOf
+pub value-constant : (k v : ℕ) → (k ≡ 0 → ⊥) → Const v ≡ askedValue k v
+unfolding askedValue
 value-constant k v h = rw (ne-eqb k 0 h)
 
 pub statement-is : (ws : List ℕ) (i e a k v : ℕ) (x : Var) (y : QueryValue) → e ≡ getD ws (i * 4) 0 → a ≡ getD ws (i * 4 + 1) 0
-    → k ≡ getD ws (i * 4 + 2) 0 → v ≡ getD ws (i * 4 + 3) 0 → x ≡ varOf e → y ≡ valueOf k v
-    → _≡_ {A = Statement} (record { entity = x; attribute = record { 0 = a }; value = y }) (statementOf ws i)
-unfolding statementOf
+    → k ≡ getD ws (i * 4 + 2) 0 → v ≡ getD ws (i * 4 + 3) 0 → x ≡ askedVar e → y ≡ askedValue k v
+    → _≡_ {A = Statement} (record { entity = x; attribute = record { 0 = a }; value = y }) (askedStatement ws i)
+unfolding askedStatement
 statement-is ws i e a k v x y he ha hk hv hx hy = rw (hx, hy, he, ha, hk, hv)
 
-pub statements-are : (ws : List ℕ) (n i : ℕ) (items : List Statement) → items ≡ padded zeroStatement maxStatements (tabled (statementOf ws) i)
-    → i ≡ min n maxStatements → _≡_ {A = Statements} (record { items = items; count = n }) (statementsOf ws n)
-unfolding statementsOf
+pub statements-are : (ws : List ℕ) (n i : ℕ) (items : List Statement) → items ≡ padded zeroStatement maxStatements (tabled (askedStatement ws) i)
+    → i ≡ min n maxStatements → _≡_ {A = Statements} (record { items = items; count = n }) (askedStatements ws n)
+unfolding askedStatements
 statements-are ws n i items e h = rw (e, h)
 
-pub selects-are : (ws : List ℕ) (n i : ℕ) (items : List Var) → items ≡ padded zeroVar maxSelects (tabled (λ i. varOf (getD ws i 0)) i)
-    → i ≡ min n maxSelects → _≡_ {A = Selects} (record { items = items; count = n }) (selectsOf ws n)
-unfolding selectsOf
+pub selects-are : (ws : List ℕ) (n i : ℕ) (items : List Var) → items ≡ padded zeroVar maxSelects (tabled (λ i. askedVar (getD ws i 0)) i)
+    → i ≡ min n maxSelects → _≡_ {A = Selects} (record { items = items; count = n }) (askedSelects ws n)
+unfolding askedSelects
 selects-are ws n i items e h = rw (e, h)
 
 pub query-is : (ws : List ℕ) (p : Parts) (v : ℕ) (s : Statements) (t : Selects) → v ≡ getD ws 1 0
-    → s ≡ statementsOf (itemsOf ws (p .statements)) (p .statements .count) → t ≡ selectsOf (itemsOf ws (p .selects)) (p .selects .count)
+    → s ≡ askedStatements (itemsOf ws (p .statements)) (p .statements .count) → t ≡ askedSelects (itemsOf ws (p .selects)) (p .selects .count)
     → _≡_ {A = Query} (record { «variable_count» = v; «where_statements» = s; select = t }) (queryWith ws p)
 unfolding queryWith
 query-is ws p v s t hv hs ht = rw (hs, ht, hv)

@@ -19,36 +19,36 @@ use Rattle.ask_question.specs.declared.Parts.{Parts}
 use Rattle.ask_question.specs.Parts.{partsOf, itemsOf, areBytes}
 
 -- a variable's number
-unfoldable pub varOf : ℕ → Var
-varOf n = record { 0 = min n largest }
+unfoldable pub askedVar : ℕ → Var
+askedVar n = record { 0 = min n largest }
 
 -- kind 0 is a variable, the other a constant
-unfoldable pub valueOf : ℕ → ℕ → QueryValue
-valueOf kind v = cond (eqb kind 0) (Variable (varOf v)) (Const v)
+unfoldable pub askedValue : ℕ → ℕ → QueryValue
+askedValue kind v = cond (eqb kind 0) (Variable (askedVar v)) (Const v)
 
 -- statement i: its entity, its attribute, and its value's kind and number
-unfoldable pub statementOf : List ℕ → ℕ → Statement
-statementOf ws i =
+unfoldable pub askedStatement : List ℕ → ℕ → Statement
+askedStatement ws i =
     record {
-      entity = varOf (getD ws (i * 4) 0);
+      entity = askedVar (getD ws (i * 4) 0);
       attribute = record { 0 = getD ws (i * 4 + 1) 0 };
-      value = valueOf (getD ws (i * 4 + 2) 0) (getD ws (i * 4 + 3) 0);
+      value = askedValue (getD ws (i * 4 + 2) 0) (getD ws (i * 4 + 3) 0);
     }
 
 -- as many as fit, zeros past them, and the count of all
-unfoldable pub statementsOf : List ℕ → ℕ → Statements
-statementsOf ws n = record { items = padded zeroStatement maxStatements (tabled (statementOf ws) (min n maxStatements)); count = n }
+unfoldable pub askedStatements : List ℕ → ℕ → Statements
+askedStatements ws n = record { items = padded zeroStatement maxStatements (tabled (askedStatement ws) (min n maxStatements)); count = n }
 
-unfoldable pub selectsOf : List ℕ → ℕ → Selects
-selectsOf ws n = record { items = padded zeroVar maxSelects (tabled (λ i. varOf (getD ws i 0)) (min n maxSelects)); count = n }
+unfoldable pub askedSelects : List ℕ → ℕ → Selects
+askedSelects ws n = record { items = padded zeroVar maxSelects (tabled (λ i. askedVar (getD ws i 0)) (min n maxSelects)); count = n }
 
 -- the query that is asked
 unfoldable pub queryWith : List ℕ → Parts → Query
 queryWith ws ps =
     record {
       «variable_count» = getD ws 1 0;
-      «where_statements» = statementsOf (itemsOf ws (ps .statements)) (ps .statements .count);
-      select = selectsOf (itemsOf ws (ps .selects)) (ps .selects .count);
+      «where_statements» = askedStatements (itemsOf ws (ps .statements)) (ps .statements .count);
+      select = askedSelects (itemsOf ws (ps .selects)) (ps .selects .count);
     }
 
 -- by the parts that are found

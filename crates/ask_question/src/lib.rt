@@ -18,7 +18,7 @@ ghost use Prim.Native.Nat.{_<_, _≤_};
 ghost use lib.ListN.{length, drop, getD};
 ghost use Rattle.capacity.specs.Capacity.{maxStatements};
 ghost use Rattle.ask_question.specs.Parts.{noPart, partAt, partsOf, itemsOf, areKinds, areBytes, insideWith};
-ghost use Rattle.ask_question.specs.Asked.{varOf, valueOf, statementOf, statementsOf, selectsOf, queryWith, bytesFit, bytesAfter, endOf, endsAfter, endsCount};
+ghost use Rattle.ask_question.specs.Asked.{askedVar, askedValue, askedStatement, askedStatements, askedSelects, queryWith, bytesFit, bytesAfter, endOf, endsAfter, endsCount};
 
 // A part of the input: where its items begin, how many they are, how many words they take, and where the next part begins. One that
 // is not there has no items, and nothing comes after it.
@@ -216,7 +216,7 @@ pub fn read_query(words: &[u64], parts: Parts) -> Query
 
 // The statements: as many as fit, zeros past them, and the count of all.
 fn read_statements(words: &[u64], count: usize) -> Statements
-    ensures { λ r. ⌜ r ≡ statementsOf (now (words .entry)) count ⌝ }
+    ensures { λ r. ⌜ r ≡ askedStatements (now (words .entry)) count ⌝ }
 {
     let mut items = [ZERO_STATEMENT; MAX_STATEMENTS];
     let mut i = 0;
@@ -232,7 +232,7 @@ fn read_statements(words: &[u64], count: usize) -> Statements
 
 fn statement_at(words: &[u64], i: usize) -> Statement
     requires { ⌜ i < maxStatements ⌝ }
-    ensures { λ r. ⌜ r ≡ statementOf (now (words .entry)) i ⌝ }
+    ensures { λ r. ⌜ r ≡ askedStatement (now (words .entry)) i ⌝ }
 {
     let at = i * STATEMENT;
     let entity = variable(word_at(words, at));
@@ -246,7 +246,7 @@ fn statement_at(words: &[u64], i: usize) -> Statement
 }
 
 fn value_of(kind: u64, value: u64) -> QueryValue
-    ensures { λ r. ⌜ r ≡ valueOf kind value ⌝ }
+    ensures { λ r. ⌜ r ≡ askedValue kind value ⌝ }
 {
     if kind == VARIABLE {
         return QueryValue::Var(variable(value));
@@ -255,7 +255,7 @@ fn value_of(kind: u64, value: u64) -> QueryValue
 }
 
 fn variable(number: u64) -> Var
-    ensures { λ r. ⌜ r ≡ varOf number ⌝ }
+    ensures { λ r. ⌜ r ≡ askedVar number ⌝ }
 {
     if (u16::MAX as u64) < number {
         return Var(u16::MAX);
@@ -265,7 +265,7 @@ fn variable(number: u64) -> Var
 
 // The variables to select, in the same way.
 fn read_selects(words: &[u64], count: usize) -> Selects
-    ensures { λ r. ⌜ r ≡ selectsOf (now (words .entry)) count ⌝ }
+    ensures { λ r. ⌜ r ≡ askedSelects (now (words .entry)) count ⌝ }
 {
     let mut items = [Var(0); MAX_SELECTS];
     let mut i = 0;

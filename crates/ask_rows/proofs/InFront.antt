@@ -15,7 +15,7 @@ use Rattle.refusal.specs.declared.Verdict.{Verdict}
 use Rattle.refusal.specs.declared.Verdict.the-variants.{Fine, Refused}
 use Rattle.refusal.proofs.Fine.{or-fine}
 use Rattle.plan.specs.declared.Plan.{Plan}
-use Rattle.plan.specs.Plan.{scansOf, selectsOf}
+use Rattle.plan.specs.Plan.{scansOf, slotsSelected}
 use Rattle.plan_check.specs.Check.{checkOf}
 use Rattle.plan_check.specs.Promised.{Promised}
 use Rattle.plan_check.proofs.Promises.{promises}
@@ -37,13 +37,13 @@ module _ (p : Plan) (ts : Tables) (selects : length (p .select) ≡ maxSelects) 
   width = p .«select_count»
 
   module _ (fine : evaluationFault p ts ≡ Fine) where
-    pub selects-long : length (selectsOf p) ≡ width
+    pub selects-long : length (slotsSelected p) ≡ width
     selects-long = let few = passed p ts fine .few-selects in length-take-le width (p .select) (omega arith)
 
     pub rows-wide : Wide width (rowList p ts)
     unfolding rowList
     rows-wide =
-        wide-map width (λ w. selected (selectsOf p) (slotsAt ts (scansOf p) (initialSlots p) w)) (λ w. length-map (selectsOf p) _ ∙ selects-long) (visits ts (scansOf p) (initialSlots p))
+        wide-map width (λ w. selected (slotsSelected p) (slotsAt ts (scansOf p) (initialSlots p) w)) (λ w. length-map (slotsSelected p) _ ∙ selects-long) (visits ts (scansOf p) (initialSlots p))
 
 -- the words of as many rows as are shown lie within the buffer
 pub room-within : (left width size : ℕ) → min left (size / width) * width ≤ size
@@ -108,20 +108,20 @@ module _ (p : Plan) (ts : Tables) (selects : length (p .select) ≡ maxSelects) 
         }
 
   module _ (fine : evaluationFault p ts ≡ Fine) where
-    abbrev wide : length (selectsOf p) ≡ p .«select_count»
+    abbrev wide : length (slotsSelected p) ≡ p .«select_count»
     wide = selects-long p ts selects fine
 
     lent : length (take room rows) ≡ room
     lent = length-take-le room rows (room-within left (p .«select_count») (length rows))
 
-    fitting : length (take room rows) / length (selectsOf p) ≡ min left (length rows / p .«select_count»)
+    fitting : length (take room rows) / length (slotsSelected p) ≡ min left (length rows / p .«select_count»)
     fitting = rw (lent, wide) (mul-div-cancel _ (passed p ts fine .some-select))
 
-    same-window : window (rowList p ts) (length (selectsOf p)) from (length (take room rows)) ≡ shown
+    same-window : window (rowList p ts) (length (slotsSelected p)) from (length (take room rows)) ≡ shown
     unfolding window shownOf
     same-window = rw fitting
 
-    same-more : follows (rowList p ts) (length (selectsOf p)) from (length (take room rows)) ≡ moreOf p ts from left (length rows)
+    same-more : follows (rowList p ts) (length (slotsSelected p)) from (length (take room rows)) ≡ moreOf p ts from left (length rows)
     unfolding moreOf shownOf
     same-more = rw fitting (shorter (min left (length rows / p .«select_count»)) (drop from (rowList p ts)))
 

@@ -20,7 +20,7 @@ use Rattle.eval.specs.declared.Evaluated.{Evaluated}
 use Rattle.eval.specs.Evaluation.{evaluationFault}
 use Rattle.ask_rows.specs.declared.Step.{Step}
 use Rattle.ask_rows.proofs.Stepped.{step-falls}
-use Rattle.ask_rows.specs.Windows.{linesOf, lastLine, shownOf, moreOf, stepOf, windowStep, endText, windowText, wordBytes, lastBytes, refusedWindow, shownWindow, windowOf, rowsAfter, outAfter, Front, Fills, Shows}
+use Rattle.ask_rows.specs.Windows.{linesOf, lastLine, shownOf, moreOf, stepOf, windowStep, endText, windowText, wordBytes, lastBytes, refusedWindow, shownWindow, windowOf, rowsAfter, outAfter, Front, Fills, ShowsWindow}
 
 -- the last line is at most so long
 end-short : (last more : Bool) → length (endText last more) ≤ lastBytes
@@ -32,7 +32,7 @@ end-short false more = omega arith
 module _ {p : Plan} {ts : Tables} {from left : ℕ} {rows rows′ : List ℕ} {r : Evaluated} (f : Fills p ts from left rows r rows′) where
   -- evaluation is refused
   pub refused-shows : {s : Refusal} {out : List ℕ} → r .verdict ≡ Refused s
-      → Shows p ts from left rows out (refusedWindow (r .verdict)) rows′ out
+      → ShowsWindow p ts from left rows out (refusedWindow (r .verdict)) rows′ out
   unfolding windowOf outAfter
   refused-shows e =
       let fault : evaluationFault p ts ≡ Refused _ = sym (f .verdict-is) ∙ e in
@@ -54,7 +54,7 @@ module _ {p : Plan} {ts : Tables} {from left : ℕ} {rows rows′ : List ℕ} {r
       unfolding windowText linesOf
       text = rw (front .words-are, stepped, front .more-is)
 
-      pub shows : Shows p ts from left rows out (record { verdict = Fine; length = n; last = s .last; from = s .from; left = s .left }) rows′ out₂
+      pub shows : ShowsWindow p ts from left rows out (record { verdict = Fine; length = n; last = s .last; from = s .from; left = s .left }) rows′ out₂
       unfolding windowOf outAfter
       shows =
           let written : Written (windowText p ts from left (length rows)) 0 out n out₂ = rw text at (written-then w v) in

@@ -121,7 +121,7 @@ pub record Fills (p : Plan) (ts : Tables) (from left : ℕ) (rows : List ℕ) (r
 
 -- a window is shown: the answer, and the two buffers after it. Its text fits where the buffer for bytes has room for as many words, each as long
 -- as can be, as the buffer for rows has, and for the last line
-pub record Shows (p : Plan) (ts : Tables) (from left : ℕ) (rows out : List ℕ) (r : Window) (rows′ out′ : List ℕ) : Type 0 where
+pub record ShowsWindow (p : Plan) (ts : Tables) (from left : ℕ) (rows out : List ℕ) (r : Window) (rows′ out′ : List ℕ) : Type 0 where
   pub answer-is : r ≡ windowOf p ts from left (length rows)
   pub rows-are : rows′ ≡ rowsAfter p ts from left rows
   pub out-is : out′ ≡ outAfter p ts from left (length rows) out

@@ -8,7 +8,7 @@ ghost use lib.ListN.{length, take};
 ghost use Rattle.text_pieces.specs.Written.{Written};
 ghost use Rattle.ask_lines.specs.Lines.{rowLines};
 ghost use Rattle.visits.specs.Visits.{tablesOf};
-ghost use Rattle.ask_rows.specs.Windows.{isLast, stepOf, endText, wordBytes, Fills, Shows};
+ghost use Rattle.ask_rows.specs.Windows.{isLast, stepOf, endText, wordBytes, Fills, ShowsWindow};
 
 // Whether evaluation is refused; how many bytes were written, whether this window is the last, and how the next one begins: the number
 // of its first row, and how many are left to show.
@@ -39,7 +39,7 @@ pub fn show<'a>(
     rows: &mut [u64],
     out: &mut [u8],
 ) -> Window
-    ensures { λ r. ⌜ Shows plan (tablesOf (now (aevt .entry)) (now (avet .entry)) (now (eavt .entry))) from left (now (rows .entry)) (now (out .entry)) r (now (rows .exit)) (now (out .exit)) ⌝ }
+    ensures { λ r. ⌜ ShowsWindow plan (tablesOf (now (aevt .entry)) (now (avet .entry)) (now (eavt .entry))) from left (now (rows .entry)) (now (out .entry)) r (now (rows .exit)) (now (out .exit)) ⌝ }
 {
     let evaluated = fill(plan, aevt, avet, eavt, from, left, rows);
     let verdict = evaluated.verdict;

@@ -69,13 +69,13 @@ weightFault before [] i = Fine
 weightFault before (s ∷ ss) i = orElse (weightFault (before ++ (s ∷ [])) ss (i + 1)) (refuseIf (leb (2 ^ 64) (weight before (s ∷ ss))) 27 i)
 
 -- a verdict and a number: 0 where it is refused
-abbrev pub weighed : Verdict → ℕ → Costed
-weighed v n = unless v (λ r. record { verdict = r; cost = 0 }) (record { verdict = Fine; cost = n })
+abbrev pub costed : Verdict → ℕ → Costed
+costed v n = unless v (λ r. record { verdict = r; cost = 0 }) (record { verdict = Fine; cost = n })
 
--- the cost of an array of scans of which so many count: 20, then 21 at the lowest such scan, then 27
+-- the cost of an array of scans of which the first k count: 20, then 21 at the lowest such scan, then 27
 unfoldable pub costOfScans : List Scan → ℕ → Costed
-costOfScans scans k = weighed (orElse (scanFlowsFault scans k) (weightFault [] (take k scans) 0)) (weight [] (take k scans))
+costOfScans scans k = costed (orElse (scanFlowsFault scans k) (weightFault [] (take k scans) 0)) (weight [] (take k scans))
 
 -- the cost of a plan: 20, then 21 at the lowest such scan, then 27
 unfoldable pub costOf : Plan → Costed
-costOf p = weighed (orElse (flowsFault p) (weightFault [] (scansOf p) 0)) (weight [] (scansOf p))
+costOf p = costed (orElse (flowsFault p) (weightFault [] (scansOf p) 0)) (weight [] (scansOf p))

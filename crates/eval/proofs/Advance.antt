@@ -8,7 +8,7 @@ use lib.ListN.{length, getD, take, drop}
 use lib.Seq.{take-length, drop-length, ext-getD}
 use Rattle.plan.specs.declared.Scan.{Scan}
 use Rattle.plan.specs.Plan.{zeroScan}
-use Rattle.plan_check.specs.Check.{written}
+use Rattle.plan_check.specs.Check.{isWritten}
 use Rattle.visits.specs.Visits.{Tables, slotsAt}
 use Rattle.visits.specs.Sound.{Sound, Agree}
 use Rattle.visits.specs.Pending.{extend, position, ending, current, currentSlots, pending}
@@ -36,7 +36,7 @@ module _ {ts : Tables} {ss : List Scan} {initial iters slots : List ℕ} (r : Re
   module _ (ok : Sound (length slots) ss) (iters′ slots′ : List ℕ) (long : length iters′ ≡ length iters) (wide : length slots′ ≡ length slots) where
     -- the slots are the visit's
     all-agree : Agree (drop (suc last) ss) slots′ (currentSlots ts ss initial iters′ (suc last)) → slots′ ≡ slotsAt ts ss initial (current iters′ (length ss))
-    unfolding written
+    unfolding isWritten
     all-agree a =
         let h : Agree (drop (length ss) ss) slots′ (currentSlots ts ss initial iters′ (length ss)) =
         subst (λ (n : ℕ). Agree (drop n ss) slots′ (currentSlots ts ss initial iters′ n)) suc-last a in

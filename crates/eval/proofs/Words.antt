@@ -15,7 +15,7 @@ use Rattle.plan.specs.Codes.{indexCode, indexOfCode}
 use Rattle.plan.specs.Plan.{inOrder, firstSlot, secondSlot, zeroScan}
 use Rattle.plan.proofs.Codes.{index-code-back, flow-code-back}
 use Rattle.visits.specs.Visits.{Tables, tableOf, inputs}
-use Rattle.eval.specs.Words.{laidWords, scanOf, wordsOf, scansIn, LiesAt, Laid}
+use Rattle.eval.specs.Words.{laidWords, laidScan, wordsOf, scansIn, LiesAt, Laid}
 
 in-order-twice : (x : Index) (e v : Slot) → inOrder x (inOrder x e v) (inOrder x v e) ≡ e
 in-order-twice Aevt e v = refl
@@ -23,7 +23,7 @@ in-order-twice Avet e v = refl
 in-order-twice Eavt e v = refl
 
 -- a scan is read back from its words
-scan-back : (s : Scan) → scanOf (indexCode (s .index)) (inputs (s .flow)) (s .attribute .0) (firstSlot s .0) (secondSlot s .0) ≡ s
+scan-back : (s : Scan) → laidScan (indexCode (s .index)) (inputs (s .flow)) (s .attribute .0) (firstSlot s .0) (secondSlot s .0) ≡ s
 scan-back s =
     rw (index-code-back (s .index), flow-code-back (s .flow), in-order-twice (s .index) (s .entity) (s .value), in-order-twice (s .index) (s .value) (s .entity))
 

@@ -9,8 +9,8 @@ use Rattle.capacity.specs.Capacity.{maxScans}
 use Rattle.plan.specs.declared.Slot.{Slot}
 use Rattle.plan.specs.declared.SlotRecord.{SlotRecord}
 use Rattle.plan.specs.declared.Plan.{Plan}
-use Rattle.plan.specs.Plan.{scansOf, slotsOf, selectsOf, zeroSlot}
-use Rattle.visits.specs.Visits.{Tables, valueOf, visits, slotsAt, initialSlots, rowList, selected}
+use Rattle.plan.specs.Plan.{scansOf, slotsOf, slotsSelected, zeroSlot}
+use Rattle.visits.specs.Visits.{Tables, startValue, visits, slotsAt, initialSlots, rowList, selected}
 use Rattle.visits.specs.Pending.{iterWords}
 use Rattle.visits.proofs.Steady.{promised-sound}
 use Rattle.eval.specs.Words.{wordsOf, scansIn, Laid}
@@ -37,21 +37,21 @@ selected-numbers : (ks : List Slot) (slots : List ℕ) → selectedBy (numbersOf
 selected-numbers [] slots = refl
 selected-numbers (k ∷ ks) slots = ap (λ (l : List ℕ). getD slots (k .0) 0 ∷ l) (selected-numbers ks slots)
 
-rows-same : (p : Plan) (ts : Tables) (ws : List (List ℕ)) → rowsAt ts (scansOf p) (initialSlots p) (numbersOf (selectsOf p)) ws
-    ≡ map (λ w. selected (selectsOf p) (slotsAt ts (scansOf p) (initialSlots p) w)) ws
+rows-same : (p : Plan) (ts : Tables) (ws : List (List ℕ)) → rowsAt ts (scansOf p) (initialSlots p) (numbersOf (slotsSelected p)) ws
+    ≡ map (λ w. selected (slotsSelected p) (slotsAt ts (scansOf p) (initialSlots p) w)) ws
 rows-same p ts [] = refl
-rows-same p ts (w ∷ ws) = rw (selected-numbers (selectsOf p) (slotsAt ts (scansOf p) (initialSlots p) w), rows-same p ts ws)
+rows-same p ts (w ∷ ws) = rw (selected-numbers (slotsSelected p) (slotsAt ts (scansOf p) (initialSlots p) w), rows-same p ts ws)
 
 module _ {p : Plan} {ts : Tables} (ok : Evaluable p ts) (ws values ks : List ℕ) (w : ws ≡ wordsOf (scansOf p)) (v : values ≡ valuesOf (slotsOf p))
-    (n : ks ≡ numbersOf (selectsOf p)) where
+    (n : ks ≡ numbersOf (slotsSelected p)) where
   scans-are : scansIn ws ≡ scansOf p
   scans-are = ap scansIn w ∙ scans-back (scansOf p)
 
   values-length : length values ≡ length (slotsOf p)
-  values-length = ap length v ∙ length-map (slotsOf p) (λ (s : SlotRecord). valueOf (s .definition))
+  values-length = ap length v ∙ length-map (slotsOf p) (λ (s : SlotRecord). startValue (s .definition))
 
-  numbers-length : length ks ≡ length (selectsOf p)
-  numbers-length = ap length n ∙ length-map (selectsOf p) (λ (k : Slot). k .0)
+  numbers-length : length ks ≡ length (slotsSelected p)
+  numbers-length = ap length n ∙ length-map (slotsSelected p) (λ (k : Slot). k .0)
 
   pub layout-laid : Laid ws (length values)
   layout-laid = record {
@@ -67,7 +67,7 @@ module _ {p : Plan} {ts : Tables} (ok : Evaluable p ts) (ws values ks : List ℕ
 
   pub layout-named : Named ks (length values)
   layout-named j l =
-      rw (values-length, n, List·getD-map (λ (k : Slot). k .0) (selectsOf p) j zeroSlot)
+      rw (values-length, n, List·getD-map (λ (k : Slot). k .0) (slotsSelected p) j zeroSlot)
       (ok .promised .selects-named j (omega (arith, numbers-length)))
 
   pub layout-selects : 0 < length ks
@@ -75,6 +75,6 @@ module _ {p : Plan} {ts : Tables} (ok : Evaluable p ts) (ws values ks : List ℕ
 
   pub layout-shows : (k : ℕ) (buffer buffer′ : List ℕ) (count : ℕ) (more : Bool)
       → Shows (rowsAt ts (scansIn ws) values ks (visits ts (scansIn ws) values)) (length ks) k buffer count more buffer′
-      → Shows (rowList p ts) (length (selectsOf p)) k buffer count more buffer′
+      → Shows (rowList p ts) (length (slotsSelected p)) k buffer count more buffer′
   unfolding rowList
   layout-shows k buffer buffer′ count more s = rw (← (rows-same p ts (visits ts (scansOf p) (initialSlots p)))) (rw (numbers-length, scans-are, v, n) at s)

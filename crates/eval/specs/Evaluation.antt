@@ -13,11 +13,11 @@ use Rattle.capacity.specs.Capacity.{maxScans, maxSlots, maxSelects}
 use Rattle.plan.specs.declared.Slot.{Slot}
 use Rattle.plan.specs.declared.SlotRecord.{SlotRecord}
 use Rattle.plan.specs.declared.Plan.{Plan}
-use Rattle.plan.specs.Plan.{scansOf, slotsOf, selectsOf, Counted}
+use Rattle.plan.specs.Plan.{scansOf, slotsOf, slotsSelected, Counted}
 use Rattle.plan_check.specs.Check.{checkOf}
 use Rattle.plan_check.specs.Promised.{Promised}
 use Rattle.tables.specs.Check.{tablesFault}
-use Rattle.visits.specs.Visits.{Tables, valueOf, rowList}
+use Rattle.visits.specs.Visits.{Tables, startValue, rowList}
 use Rattle.visits.specs.Window.{window, follows, filled}
 use Rattle.visits.specs.Pending.{iterWords}
 use Rattle.eval.specs.Words.{laidWords, wordsOf}
@@ -27,7 +27,7 @@ use Rattle.eval.specs.declared.Evaluated.{Evaluated}
 
 -- what slots hold before any scan
 abbrev pub valuesOf : List SlotRecord → List ℕ
-valuesOf ss = map (λ (s : SlotRecord). valueOf (s .definition)) ss
+valuesOf ss = map (λ (s : SlotRecord). startValue (s .definition)) ss
 
 -- the numbers of slots
 abbrev pub numbersOf : List Slot → List ℕ
@@ -37,7 +37,7 @@ numbersOf ks = map (λ (k : Slot). k .0) ks
 pub record Evaluable (p : Plan) (ts : Tables) : Type 0 where
   pub promised : Promised p
   pub some-scan : 0 < length (scansOf p)
-  pub some-select : 0 < length (selectsOf p)
+  pub some-select : 0 < length (slotsSelected p)
   pub sorted : Ascend ts
 
 -- the state has room for any plan
@@ -60,12 +60,12 @@ pub record RoomFor (p : Plan) (words initial selects slots : ℕ) : Type 0 where
 pub record WrittenOut (p : Plan) (words initial selects slots : List ℕ) : Type 0 where
   pub words-are : take (laidWords * p .«scan_count») words ≡ wordsOf (scansOf p)
   pub initial-are : take (p .«slot_count») initial ≡ valuesOf (slotsOf p)
-  pub selects-are : take (p .«select_count») selects ≡ numbersOf (selectsOf p)
+  pub selects-are : take (p .«select_count») selects ≡ numbersOf (slotsSelected p)
   pub slots-are : take (p .«slot_count») slots ≡ valuesOf (slotsOf p)
 
 -- what is shown of a plan's rows
 abbrev pub ShowsRows : Plan → Tables → ℕ → List ℕ → ℕ → Bool → List ℕ → Type 0
-ShowsRows p ts k buffer count more buffer′ = Shows (rowList p ts) (length (selectsOf p)) k buffer count more buffer′
+ShowsRows p ts k buffer count more buffer′ = Shows (rowList p ts) (length (slotsSelected p)) k buffer count more buffer′
 
 -- the order of refusals: the plan check, 28 where the plan has no scans, the check of the tables
 unfoldable pub evaluationFault : Plan → Tables → Verdict
@@ -80,11 +80,11 @@ shows rows width k room = record { verdict = Fine; count = length (window rows w
 abbrev pub shownIn : List (List ℕ) → ℕ → ℕ → List ℕ → List ℕ
 shownIn rows width k buffer = filled (window rows width k (length buffer)) buffer
 
--- the answer of evaluation from row k on, into a buffer of so many words
+-- the answer of evaluation from row k on, into a buffer of `room` words
 unfoldable pub evaluateOf : Plan → Tables → ℕ → ℕ → Evaluated
 evaluateOf p ts k room =
-    unless (evaluationFault p ts) (λ v. record { verdict = v; count = 0; more = false }) (shows (rowList p ts) (length (selectsOf p)) k room)
+    unless (evaluationFault p ts) (λ v. record { verdict = v; count = 0; more = false }) (shows (rowList p ts) (length (slotsSelected p)) k room)
 
 -- and the buffer after it
 unfoldable pub bufferAfter : Plan → Tables → ℕ → List ℕ → List ℕ
-bufferAfter p ts k buffer = unless (evaluationFault p ts) (λ v. buffer) (shownIn (rowList p ts) (length (selectsOf p)) k buffer)
+bufferAfter p ts k buffer = unless (evaluationFault p ts) (λ v. buffer) (shownIn (rowList p ts) (length (slotsSelected p)) k buffer)

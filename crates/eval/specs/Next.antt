@@ -26,7 +26,7 @@ pub record Advanced (ts : Tables) (ss : List Scan) (initial iters : List ℕ) (m
   pub no-more : more ≡ false → remaining ts ss initial iters ≡ []
   pub no-rest : more ≡ false → remaining ts ss initial iters′ ≡ []
 
--- so many visits are passed over: whether there were so many. What is left is left
+-- a number of visits is passed over: whether there were as many. What is left is left
 pub record Skipped (ts : Tables) (ss : List Scan) (initial iters : List ℕ) (count : ℕ) (more : Bool) (iters′ slots′ : List ℕ) : Type 0 where
   pub rest : remaining ts ss initial iters′ ≡ drop count (remaining ts ss initial iters)
   pub ready : Ready ts ss initial iters′ slots′ (innermost ss)

@@ -20,16 +20,16 @@ wordsOf [] = []
 wordsOf (s ∷ ss) = indexCode (s .index) ∷ inputs (s .flow) ∷ s .attribute .0 ∷ firstSlot s .0 ∷ secondSlot s .0 ∷ wordsOf ss
 
 -- the other way round
-abbrev pub slotOf : ℕ → Slot
-slotOf n = record { 0 = n }
+abbrev pub laidSlot : ℕ → Slot
+laidSlot n = record { 0 = n }
 
-abbrev pub scanOf : ℕ → ℕ → ℕ → ℕ → ℕ → Scan
-scanOf x f a y z = record {
+abbrev pub laidScan : ℕ → ℕ → ℕ → ℕ → ℕ → Scan
+laidScan x f a y z = record {
   index = indexOfCode x;
   flow = flowOfCode f;
-  entity = inOrder (indexOfCode x) (slotOf y) (slotOf z);
+  entity = inOrder (indexOfCode x) (laidSlot y) (laidSlot z);
   attribute = record { 0 = a };
-  value = inOrder (indexOfCode x) (slotOf z) (slotOf y);
+  value = inOrder (indexOfCode x) (laidSlot z) (laidSlot y);
 }
 
 unfoldable pub scansIn : List ℕ → List Scan
@@ -38,9 +38,9 @@ scansIn (x ∷ []) = []
 scansIn (x ∷ f ∷ []) = []
 scansIn (x ∷ f ∷ a ∷ []) = []
 scansIn (x ∷ f ∷ a ∷ y ∷ []) = []
-scansIn (x ∷ f ∷ a ∷ y ∷ z ∷ ws) = scanOf x f a y z ∷ scansIn ws
+scansIn (x ∷ f ∷ a ∷ y ∷ z ∷ ws) = laidScan x f a y z ∷ scansIn ws
 
--- the words of scan i say what the scan is, and its slots are among so many
+-- the words of scan i say what the scan is, and its slots are among the first `slots`
 pub record LiesAt (ws : List ℕ) (slots i : ℕ) : Type 0 where
   pub whole : laidWords * i + laidWords ≤ length ws
   pub index-is : getD ws (laidWords * i) 0 ≡ indexCode (getD (scansIn ws) i zeroScan .index)
@@ -52,7 +52,7 @@ pub record LiesAt (ws : List ℕ) (slots i : ℕ) : Type 0 where
   pub second-is : getD ws (laidWords * i + 4) 0 ≡ secondSlot (getD (scansIn ws) i zeroScan) .0
   pub second-in : getD ws (laidWords * i + 4) 0 < slots
 
--- words that are those of scans, and of such as a plan of so many slots that passes the check has
+-- words that are those of scans, and of such as a plan with that number of slots has that passes the check
 pub record Laid (ws : List ℕ) (slots : ℕ) : Type 0 where
   pub words-are : ws ≡ wordsOf (scansIn ws)
   pub sound : Sound slots (scansIn ws)

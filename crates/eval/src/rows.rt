@@ -74,7 +74,7 @@ pub(crate) fn show<'a>(
     }
 }
 
-// Pass over so many visits. Returns whether there were so many.
+// Pass over a number of visits. Returns whether there were as many.
 fn skip<'a>(
     count: u64,
     words: &[u64],

@@ -25,7 +25,7 @@ ghost use mathlib.Core.List.{[], _∷_, _++_};
 ghost use lib.ListN.{length, take, drop, replicate};
 ghost use Rattle.capacity.specs.Capacity.{maxScans, maxSlots, maxSelects};
 ghost use Rattle.plan.specs.Plan.{inOrder};
-ghost use Rattle.visits.specs.Visits.{tablesOf, valueOf, visits};
+ghost use Rattle.visits.specs.Visits.{tablesOf, startValue, visits};
 ghost use Rattle.visits.specs.Pending.{iterWords};
 ghost use Rattle.eval.specs.Words.{laidWords, wordsOf, scansIn, Laid};
 ghost use Rattle.eval.specs.Steps.{Ascend};
@@ -180,7 +180,7 @@ fn write_plan(
     write_selects(select, plan.select_count, selects);
 }
 
-// Write the words of so many scans.
+// Write the words of the first `scan_count` scans.
 fn write_scans(scans: [Scan; MAX_SCANS], scan_count: usize, words: &mut [u64])
     requires { ⌜ («scan_count» ≤ maxScans) × (laidWords * «scan_count» ≤ length (now words)) ⌝ }
     ensures { λ r. ⌜ take (laidWords * «scan_count») (now (words .exit)) ≡ wordsOf (take «scan_count» scans) ⌝ }
@@ -219,7 +219,7 @@ fn in_order(index: Index, entity: Slot, value: Slot) -> u64
     }
 }
 
-// Write what so many slots hold before any scan.
+// Write what the first `slot_count` slots hold before any scan.
 fn write_slots(slots: [SlotRecord; MAX_SLOTS], slot_count: usize, values: &mut [u64])
     requires { ⌜ («slot_count» ≤ maxSlots) × («slot_count» ≤ length (now values)) ⌝ }
     ensures { λ r. ⌜ take «slot_count» (now (values .exit)) ≡ valuesOf (take «slot_count» slots) ⌝ }
@@ -235,7 +235,7 @@ fn write_slots(slots: [SlotRecord; MAX_SLOTS], slot_count: usize, values: &mut [
 
 // What a slot holds before any scan.
 fn value_of(definition: SlotDefinition) -> u64
-    ensures { λ r. ⌜ r ≡ valueOf definition ⌝ }
+    ensures { λ r. ⌜ r ≡ startValue definition ⌝ }
 {
     match definition {
         SlotDefinition::Variable => 0,
@@ -243,7 +243,7 @@ fn value_of(definition: SlotDefinition) -> u64
     }
 }
 
-// Write the numbers of so many selected slots.
+// Write the numbers of the first `select_count` selected slots.
 fn write_selects(select: [Slot; MAX_SELECTS], select_count: usize, selects: &mut [u64])
     requires { ⌜ («select_count» ≤ maxSelects) × («select_count» ≤ length (now selects)) ⌝ }
     ensures { λ r. ⌜ take «select_count» (now (selects .exit)) ≡ numbersOf (take «select_count» select) ⌝ }

@@ -7,17 +7,17 @@ use native.Mathlib.Nat.{not-suc-le-zero, le-of-suc-le-suc}
 use lib.ListN.{length, getD}
 use Rattle.lists.specs.Padded.{padded}
 use Rattle.refusal.specs.Verdict.{firstFault, refuseFirst}
-use Rattle.permutation.specs.Swaps.{elementsFault, stopFrom, cleared, nextOf}
+use Rattle.permutation.specs.Swaps.{elementsFault, stopFrom, cleared, nextSwapOf}
 use Rattle.orders.specs.Lists.{swapped, factorial}
 use Rattle.orders.specs.Listing.{answerAt, listed}
 use Rattle.query.specs.Query.{named}
 use Rattle.query_check.specs.Refusals.{constants, statementsFault, selectsFault, unusedFault, capacityFault, variablesFault, queryFault}
 use Rattle.plan.specs.Plan.{countsFault, outOutFault, flowsFault}
-use Rattle.plan_check.specs.Check.{written, isSet, slotFault, scanFault, scansFault, unsetFault, initializationFault, selectsFault as planSelectsFault, checkOf}
+use Rattle.plan_check.specs.Check.{isWritten, isSet, slotFault, scanFault, scansFault, unsetFault, initializationFault, selectsFault as planSelectsFault, checkOf}
 use Rattle.cost.specs.Cost.{indexUsed, keyUsed, weight, weightFault, costOf}
 use Rattle.planner.specs.Refusals.{boundTwiceFault, planFault}
 use Rattle.planner.specs.Planning.{slotsOfConstants, scanOf, scansFor, planFor, planOf}
-use Rattle.listing.specs.Listing.{before, combinations}
+use Rattle.listing.specs.Listing.{eachBefore, combinations}
 use Rattle.search.specs.Search.{candidatesOf, candidates, leastFrom, searchOf}
 use Rattle.lists.specs.Span.{span}
 use Rattle.tables.specs.Rows.{row, before as earlier, ascending, begins, keep, matching, flat}
@@ -27,10 +27,10 @@ use Rattle.tables.proofs.Pigeonhole.{same-equal}
 use Rattle.visits.specs.Visits.{visited, standing, each, visits, slotsAt, rowList}
 use Rattle.visits.specs.Window.{window}
 use Rattle.eval.specs.Evaluation.{evaluationFault, evaluateOf, bufferAfter}
-use Rattle.examples.specs.Table.{scanWords, answer, Line, table, hold}
+use Rattle.examples.specs.Table.{flowsAndIndexes, answer, Line, table, hold}
 
 pub claim : hold table ≡ true
-unfolding table hold answer scanWords sameRow planOf planFault queryFault capacityFault variablesFault constants refuseFirst firstFault statementsFault selectsFault unusedFault named boundTwiceFault planFor scansFor scanOf slotsOfConstants padded combinations before costOf flowsFault countsFault outOutFault weightFault weight indexUsed keyUsed searchOf candidates candidatesOf leastFrom factorial span listed answerAt nextOf elementsFault stopFrom cleared swapped rowList visits visited standing each slotsAt matching keep begins row flat evaluateOf bufferAfter evaluationFault checkOf initializationFault scansFault scanFault slotFault isSet written unsetFault planSelectsFault tablesFault missingFault isAmong ascending earlier window
+unfolding table hold answer flowsAndIndexes sameRow planOf planFault queryFault capacityFault variablesFault constants refuseFirst firstFault statementsFault selectsFault unusedFault named boundTwiceFault planFor scansFor scanOf slotsOfConstants padded combinations eachBefore costOf flowsFault countsFault outOutFault weightFault weight indexUsed keyUsed searchOf candidates candidatesOf leastFrom factorial span listed answerAt nextSwapOf elementsFault stopFrom cleared swapped rowList visits visited standing each slotsAt matching keep begins row flat evaluateOf bufferAfter evaluationFault checkOf initializationFault scansFault scanFault slotFault isSet isWritten unsetFault planSelectsFault tablesFault missingFault isAmong ascending earlier window
 claim = refl
 
 -- from the claim, each line

@@ -81,6 +81,6 @@ overAttribute =
     record { index = Aevt; flow = InIn; entity = record { 0 = 1 }; attribute = record { 0 = 9 }; value = record { 0 = 2 } } ∷ [])
     (variableSlot ∷ variableSlot ∷ record { definition = Constant 7 } ∷ [])
 
--- so many out-out aevt scans on one attribute
+-- n out-out aevt scans on one attribute
 abbrev pub outOuts : ℕ → Plan
 outOuts n = planWith (replicate n zeroScan) (variableSlot ∷ [])

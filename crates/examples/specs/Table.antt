@@ -35,9 +35,9 @@ abbrev pub swapWords : NextSwap → List ℕ
 swapWords g = cond (g .«is_some») (g .swap .0 ∷ g .swap .1 ∷ []) []
 
 -- of each scan, how many of its slots it reads, and its table's number
-unfoldable pub scanWords : List Scan → List ℕ
-scanWords [] = []
-scanWords (s ∷ ss) = inputs (s .flow) ∷ indexCode (s .index) ∷ scanWords ss
+unfoldable pub flowsAndIndexes : List Scan → List ℕ
+flowsAndIndexes [] = []
+flowsAndIndexes (s ∷ ss) = inputs (s .flow) ∷ indexCode (s .index) ∷ flowsAndIndexes ss
 
 -- the plans listed for a query, in order
 abbrev pub listedFor : Query → List Plan
@@ -70,7 +70,7 @@ said false = 0
 unfoldable pub answer : Question → List ℕ
 answer (plans q) = length (listedFor q) ∷ []
 answer (costs q) = map (λ (p : Plan). costOf p .cost) (listedFor q)
-answer (scans q) = scanWords (scansOf (planOf q .plan))
+answer (scans q) = flowsAndIndexes (scansOf (planOf q .plan))
 answer (found q) = searchOf q .cost ∷ []
 answer (unplanned q) = refusalWords (planOf q .verdict)
 answer (unfound q) = refusalWords (searchOf q .verdict)

@@ -14,7 +14,7 @@ use Rattle.plan.specs.declared.Index.the-variants.{Aevt, Avet, Eavt}
 use Rattle.plan.specs.declared.Flow.{Flow}
 use Rattle.plan.specs.declared.Flow.the-variants.{OutOut, InOut, InIn}
 use Rattle.listing.specs.Next.{isNewIndex, nextScan, nextScans, isNewScans}
-use Rattle.listing.specs.Listing.{cycleOf, before, combinations, isInitial, Initial, Listed, listings}
+use Rattle.listing.specs.Listing.{cycleOf, eachBefore, combinations, isInitial, Initial, Listed, listings}
 use Rattle.listing.proofs.Circle.{Run, Circle, circle-first, circle-steps, circle-ends, circle-once}
 
 abbrev isNewScan : Scan → Bool
@@ -46,14 +46,14 @@ module _ (s : Scan) (cs : List Scan) (w : List Scan) where
 
   -- at the end of each turn the others step
   turns : Run nextScan isNewScan s s cs → (l : List Scan) (ls : List (List Scan)) → Run nextScans isNewScans w l ls
-      → Run nextScans isNewScans (s ∷ w) (s ∷ l) (map (λ y. y ∷ l) cs ++ before (s ∷ cs) ls)
-  unfolding nextScans isNewScans before
+      → Run nextScans isNewScans (s ∷ w) (s ∷ l) (map (λ y. y ∷ l) cs ++ eachBefore (s ∷ cs) ls)
+  unfolding nextScans isNewScans eachBefore
   turns c l [] r = turn l [] (λ x n e. (simp (n, r .0), simp (n, e, r .1))) s cs c
-  turns c l (m ∷ ls) r = turn l (before (s ∷ cs) (m ∷ ls)) (λ x n e. (simp (n, r .0), simp (n, e, r .1), turns c m ls (r .2))) s cs c
+  turns c l (m ∷ ls) r = turn l (eachBefore (s ∷ cs) (m ∷ ls)) (λ x n e. (simp (n, r .0), simp (n, e, r .1), turns c m ls (r .2))) s cs c
 
 -- all wheels
 pub wheels : (ss : List Scan) → Initial ss → Circle nextScans isNewScans ss (combinations ss)
-unfolding nextScans isNewScans before combinations
+unfolding nextScans isNewScans eachBefore combinations
 wheels [] i = record { begins = refl; runs = (refl, refl) }
 wheels (s ∷ ss) i =
     let c = wheel (s .flow) (s .index) (s .entity) (s .attribute) (s .value) (i 0 (omega arith) s) in
@@ -72,8 +72,8 @@ listed ss i =
     }
 
 -- as many as the product of the cycles' lengths
-before-length : (xs : List Scan) (ls : List (List Scan)) → length (before xs ls) ≡ length xs * length ls
-unfolding before
+before-length : (xs : List Scan) (ls : List (List Scan)) → length (eachBefore xs ls) ≡ length xs * length ls
+unfolding eachBefore
 before-length xs [] = sym (mul-zero (length xs))
 before-length xs (l ∷ ls) = simp (length-append, length-map, before-length xs ls, mul-suc) (omega arith)
 

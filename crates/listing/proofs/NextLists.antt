@@ -14,7 +14,7 @@ use Rattle.refusal.proofs.First.{each-passes}
 use Rattle.plan.specs.declared.Scan.{Scan}
 use Rattle.plan.specs.declared.Plan.{Plan}
 use Rattle.plan.specs.Plan.{zeroScan, scansOf, countsFault, outOutFault, flowsFault}
-use Rattle.listing.specs.Next.{isNewIndex, nextScans, isNewScans, withScans, nextOf}
+use Rattle.listing.specs.Next.{isNewIndex, nextScans, isNewScans, withScans, nextPlanOf}
 use Rattle.listing.specs.Listing.{combinations, Initial}
 use Rattle.listing.proofs.Listed.{listed}
 use Rattle.listing.proofs.SameAccesses.{SameScans, same-at}
@@ -55,8 +55,8 @@ same-flows {ts = ts} b i = each-passes _ _ zeroScan i ts .1 (λ j h. same-at b z
 module _ (p : Plan) (fits : p .«scan_count» ≤ length (p .scans)) (fine : flowsFault p ≡ Fine) where
   -- the plan with other scans of the same cycles
   next-same : (l : List Scan) → SameScans (scansOf p) l
-      → nextOf (withScans p l) ≡ record { verdict = Fine; «is_new» = isNewScans l; plan = withScans p (nextScans l) }
-  unfolding nextOf flowsFault
+      → nextPlanOf (withScans p l) ≡ record { verdict = Fine; «is_new» = isNewScans l; plan = withScans p (nextScans l) }
+  unfolding nextPlanOf flowsFault
   next-same l b =
       let n = p .«scan_count» in
       simp (or-fine (countsFault n (p .«slot_count») (p .«select_count»)) _ fine .0, same-scans p l fits b, same-flows b 0)
@@ -71,13 +71,13 @@ module _ (p : Plan) (fits : p .«scan_count» ≤ length (p .scans)) (fine : flo
     plan-first = rw (listed _ initial .first) initial-again
 
     pub next-steps : (t : ℕ) → suc t < length (combinations (scansOf p))
-        → nextOf (planAt p t) ≡ record { verdict = Fine; «is_new» = true; plan = planAt p (suc t) }
+        → nextPlanOf (planAt p t) ≡ record { verdict = Fine; «is_new» = true; plan = planAt p (suc t) }
     next-steps t h =
         let s = listed _ initial .steps t h in
         let here : t < length (combinations (scansOf p)) = omega arith in
         next-same _ (same-accesses _ t here) ∙ rw (s .0, s .1)
 
-    pub next-ends : (t : ℕ) → suc t ≡ length (combinations (scansOf p)) → nextOf (planAt p t) ≡ record { verdict = Fine; «is_new» = false; plan = p }
+    pub next-ends : (t : ℕ) → suc t ≡ length (combinations (scansOf p)) → nextPlanOf (planAt p t) ≡ record { verdict = Fine; «is_new» = false; plan = p }
     next-ends t e =
         let s = listed _ initial .ends t e in
         let here : t < length (combinations (scansOf p)) = omega arith in

@@ -7,10 +7,10 @@ use Rattle.plan.specs.declared.Scan.{Scan}
 use Rattle.plan.specs.declared.Plan.{Plan}
 use Rattle.listing.specs.declared.NextScans.{NextScans}
 use Rattle.listing.specs.declared.NextPlan.{NextPlan}
-use Rattle.listing.specs.Next.{nextOfScans, nextOf}
+use Rattle.listing.specs.Next.{nextOfScans, nextPlanOf}
 
 pub next-scans-one : (l : List Scan) (k : ℕ) (r r′ : NextScans) → r ≡ nextOfScans l k → r′ ≡ nextOfScans l k → r ≡ r′
 next-scans-one l k r r′ = one-answer
 
-pub next-one : (p : Plan) (r r′ : NextPlan) → r ≡ nextOf p → r′ ≡ nextOf p → r ≡ r′
+pub next-one : (p : Plan) (r r′ : NextPlan) → r ≡ nextPlanOf p → r′ ≡ nextPlanOf p → r ≡ r′
 next-one p r r′ = one-answer

@@ -20,7 +20,7 @@ use Rattle.plan.specs.Plan.{entityValueFlow, outOutEavt, zeroScan, scansOf, slo
 use Rattle.plan_check.specs.Check.{checkOf}
 use Rattle.plan_check.proofs.Promises.{promises, promised-passes}
 use Rattle.listing.specs.Next.{withScans}
-use Rattle.listing.specs.Listing.{over, cycleOf, before, combinations}
+use Rattle.listing.specs.Listing.{over, cycleOf, eachBefore, combinations}
 use Rattle.listing.proofs.SameAccesses.{SameAccesses, SameScans, none, more, same-length, same-set, same-scans-fit}
 
 -- each element of a list
@@ -58,8 +58,8 @@ same-cycle InOut Eavt e a v = one (same-over _ _ refl refl) (one (same-over _ _ 
 same-cycle InOut Avet e a v = one (same-over _ _ refl refl) nil
 
 -- scans and the combinations of their cycles
-same-before : (s : Scan) (ss xs : List Scan) (ls : List (List Scan)) → Each (SameAccesses s) xs → Each (SameScans ss) ls → Each (SameScans (s ∷ ss)) (before xs ls)
-unfolding before
+same-before : (s : Scan) (ss xs : List Scan) (ls : List (List Scan)) → Each (SameAccesses s) xs → Each (SameScans ss) ls → Each (SameScans (s ∷ ss)) (eachBefore xs ls)
+unfolding eachBefore
 same-before s ss xs [] p q = nil
 same-before s ss xs (l ∷ ls) p (one b q) = each-append (heads xs p) (same-before s ss xs ls p q)
   where

@@ -19,7 +19,7 @@ use Rattle.plan.specs.declared.Flow.the-variants.{OutOut, InOut, InIn}
 use Rattle.plan.specs.declared.EntityValueFlow.{EntityValueFlow}
 use Rattle.plan.specs.declared.EntityValueFlow.the-variants.{OutOut as BothOut, InOut as EntityIn, OutIn as ValueIn, InIn as BothIn}
 use Rattle.plan.specs.Plan.{inOrder, firstAccess, secondAccess, entityValueFlow, outOutEavt}
-use Rattle.plan_check.specs.Check.{writesTo, firstWrites, secondWrites, written, isSet}
+use Rattle.plan_check.specs.Check.{writesTo, firstWrites, secondWrites, isWritten, isSet}
 use Rattle.plan_check.specs.Promised.{Rightly, Fits}
 
 -- two scans that do the same with the same entity and value
@@ -107,8 +107,8 @@ same-length none = refl
 same-length (more a b) = ap suc (same-length b)
 
 -- the same slots are written, and so the same are set
-pub same-written : {ss ts : List Scan} → SameScans ss ts → (k : ℕ) → written ss k ≡ written ts k
-unfolding written
+pub same-written : {ss ts : List Scan} → SameScans ss ts → (k : ℕ) → isWritten ss k ≡ isWritten ts k
+unfolding isWritten
 same-written none k = refl
 same-written (more a b) k = rw (same-writes a k, same-written b k)
 

@@ -18,14 +18,14 @@ abbrev pub cycleOf : Scan → List Scan
 cycleOf s = map (over s) (cycle (s .flow) (s .index))
 
 -- each of the one before each list of the other, the ones going fastest
-unfoldable pub before : List Scan → List (List Scan) → List (List Scan)
-before xs [] = []
-before xs (l ∷ ls) = map (λ x. x ∷ l) xs ++ before xs ls
+unfoldable pub eachBefore : List Scan → List (List Scan) → List (List Scan)
+eachBefore xs [] = []
+eachBefore xs (l ∷ ls) = map (λ x. x ∷ l) xs ++ eachBefore xs ls
 
 -- all combinations of the scans' cycles, scan 0 going fastest
 unfoldable pub combinations : List Scan → List (List Scan)
 combinations [] = [] ∷ []
-combinations (s ∷ ss) = before (cycleOf s) (combinations ss)
+combinations (s ∷ ss) = eachBefore (cycleOf s) (combinations ss)
 
 -- each scan stands at the beginning of its cycle, as planning leaves it
 unfoldable pub isInitial : Scan → Bool

@@ -61,7 +61,7 @@ unfoldable pub isNewScans : List Scan → Bool
 isNewScans [] = false
 isNewScans (s ∷ ss) = cond (isNewIndex (s .flow) (s .index)) true (isNewScans ss)
 
--- an array of scans of which so many count, stepped; the places past them stay as they are
+-- an array of scans of which the first k count, stepped; the places past them stay as they are
 abbrev pub stepped : List Scan → ℕ → NextScans
 stepped scans k = record { verdict = Fine; «is_new» = isNewScans (take k scans); scans = nextScans (take k scans) ++ drop k scans }
 
@@ -81,7 +81,7 @@ withScans p ss = record {
 }
 
 -- what `next` answers; where it refuses (20, then 21 at the lowest such scan), no, and the plan as it was given
-unfoldable pub nextOf : Plan → NextPlan
-nextOf p =
+unfoldable pub nextPlanOf : Plan → NextPlan
+nextPlanOf p =
     unless (flowsFault p) (λ v. record { verdict = v; «is_new» = false; plan = p })
     (record { verdict = Fine; «is_new» = isNewScans (scansOf p); plan = withScans p (nextScans (scansOf p)) })

@@ -14,7 +14,7 @@ use plan::Plan;
 use plan::Scan;
 use refusal::Verdict;
 ghost use mathlib.Core.Path.{_≡_};
-ghost use Rattle.listing.specs.Next.{nextIndex, isNewIndex, nextScan, nextOfScans, nextOf};
+ghost use Rattle.listing.specs.Next.{nextIndex, isNewIndex, nextScan, nextOfScans, nextPlanOf};
 
 // The answer of `next`: whether it is new, and the plan; where it is refused, the plan as it was given.
 pub struct NextPlan {
@@ -40,7 +40,7 @@ struct NextScan {
 //
 // Says whether a new plan was generated. Says no when all plans have been exhausted; the initial plan then stands again.
 pub fn next(plan: Plan) -> NextPlan
-    ensures { λ r. ⌜ r ≡ nextOf plan ⌝ }
+    ensures { λ r. ⌜ r ≡ nextPlanOf plan ⌝ }
 {
     let scan_count = plan.scan_count;
     let counts = plan::check_counts(scan_count, plan.slot_count, plan.select_count);

@@ -12,7 +12,7 @@ use Rattle.tables.specs.Check.{tablesFault}
 use Rattle.visits.specs.Visits.{Tables}
 use Rattle.eval.specs.Evaluation.{evaluateOf, bufferAfter}
 use Rattle.text_names.specs.Names.{selectNameFault}
-use Rattle.plan_text.specs.Answer.{formattedOf, bufferAfter as textAfter}
+use Rattle.plan_text.specs.Answer.{formattedOf, textAfter}
 use Rattle.loader_words.specs.Words.{planOfWords}
 use Rattle.loader.specs.Answers.{numberOf, answerOf, bit, planAfter, steppedAfter, orderAfter, stateAfter, swapAfter, plannedOf, foundOf, steppedOf, swappedOf, evaluatedWords, formattedWords, nameWords}
 

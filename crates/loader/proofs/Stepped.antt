@@ -17,7 +17,7 @@ use Rattle.plan.specs.declared.Scan.{Scan}
 use Rattle.plan.specs.declared.Plan.{Plan}
 use Rattle.plan.specs.Plan.{zeroScan, scansOf, countsFault, outOutFault, flowsFault}
 use Rattle.plan.proofs.Counts.{counts-fine}
-use Rattle.listing.specs.Next.{isNewIndex, nextScans, withScans, nextOf}
+use Rattle.listing.specs.Next.{isNewIndex, nextScans, withScans, nextPlanOf}
 use Rattle.listing.proofs.NextLists.{next-length, with-scans}
 use Rattle.loader_words.specs.Words.{word, planWords, scanAt, planOfWords}
 use Rattle.loader_plan_words.specs.Write.{indexAt, withIndexes}
@@ -59,19 +59,19 @@ module _ (ws : List ℕ) where
 
   -- the words say the next plan, or where it is refused the one that they said
   pub step-says : length ws ≡ planWords → planOfWords (steppedAfter (steppedOf ws) ws) ≡ steppedOf ws .plan
-  unfolding nextOf
+  unfolding nextPlanOf
   step-says long = go (flowsFault p) refl
     where
-      go : (v : Verdict) → flowsFault p ≡ v → planOfWords (steppedAfter (nextOf p) ws) ≡ nextOf p .plan
+      go : (v : Verdict) → flowsFault p ≡ v → planOfWords (steppedAfter (nextPlanOf p) ws) ≡ nextPlanOf p .plan
       go Fine e = rw e (fine-says long e)
       go (Refused r) e = rw e refl
 
   -- a word that is no index word of a scan that counts stays
   pub step-stays : (j : ℕ) → ((i : ℕ) → i < p .«scan_count» → j ≡ indexAt i → ⊥) → word (steppedAfter (steppedOf ws) ws) j ≡ word ws j
-  unfolding nextOf
+  unfolding nextPlanOf
   step-stays j other = go (flowsFault p) refl
     where
-      go : (v : Verdict) → flowsFault p ≡ v → word (steppedAfter (nextOf p) ws) j ≡ word ws j
+      go : (v : Verdict) → flowsFault p ≡ v → word (steppedAfter (nextPlanOf p) ws) j ≡ word ws j
       go Fine e =
           let all = length-take (p .«scan_count») (withScans p next .scans) in
           rw e (indexes-other (scansOf (withScans p next)) 0 ws j (λ n h q. other n (omega arith) (omega arith)))

@@ -11,7 +11,7 @@ use Rattle.plan.specs.Plan.{scansOf}
 use Rattle.permutation.specs.declared.Permutations.{Permutations}
 use Rattle.permutation.specs.declared.Swap.{Swap}
 use Rattle.permutation.specs.declared.Step.{Step}
-use Rattle.permutation.specs.Swaps.{nextOf as stepOf}
+use Rattle.permutation.specs.Swaps.{nextSwapOf as stepOf}
 use Rattle.loader_swap_words.specs.State.{stateOfWords, wordsOfState}
 use Rattle.loader_words.specs.Words.{planOfWords, queryOfWords}
 use Rattle.loader_plan_words.specs.Write.{wordsOfPlan, withIndexes}
@@ -20,7 +20,7 @@ use Rattle.planner.specs.Planning.{planOf}
 use Rattle.search.specs.declared.Found.{Found}
 use Rattle.search.specs.Search.{searchOf}
 use Rattle.listing.specs.declared.NextPlan.{NextPlan}
-use Rattle.listing.specs.Next.{nextOf}
+use Rattle.listing.specs.Next.{nextPlanOf}
 use Rattle.eval.specs.declared.Evaluated.{Evaluated}
 use Rattle.text_names.specs.Names.{selectNameFault, selectNameOf}
 use Rattle.plan_text.specs.declared.Formatted.{Formatted}
@@ -70,7 +70,7 @@ abbrev pub foundOf : List ℕ → Found
 foundOf query = searchOf (queryOfWords query)
 
 abbrev pub steppedOf : List ℕ → NextPlan
-steppedOf plan = nextOf (planOfWords plan)
+steppedOf plan = nextPlanOf (planOfWords plan)
 
 abbrev pub swappedOf : List ℕ → Step
 swappedOf state = stepOf (stateOfWords state)

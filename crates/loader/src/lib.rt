@@ -18,7 +18,7 @@ ghost use Rattle.plan_check.specs.Check.{checkOf};
 ghost use Rattle.tables.specs.Check.{tablesFault};
 ghost use Rattle.eval.specs.Evaluation.{evaluateOf, bufferAfter};
 ghost use Rattle.text_names.specs.Names.{selectNameFault};
-ghost use Rattle.plan_text.specs.Answer.{formattedOf, bufferAfter as textAfter};
+ghost use Rattle.plan_text.specs.Answer.{formattedOf, textAfter};
 ghost use Rattle.permutation.specs.Swaps.{freshOf};
 ghost use Rattle.loader_words.specs.Words.{planOfWords};
 ghost use Rattle.loader.specs.Answers.{numberOf, placeOf, answerOf, bit, planAfter, steppedAfter, orderAfter, stateAfter, swapAfter, plannedOf, foundOf, steppedOf, swappedOf, evaluatedWords, formattedWords, nameWords};

@@ -19,7 +19,7 @@ use Rattle.plan.specs.Codes.{indexCode, flowCode}
 use Rattle.plan.specs.Plan.{zeroScan, variableSlot, zeroSlot}
 use Rattle.query.specs.Query.{largest}
 use Rattle.lists.proofs.Tabled.{tabled-same}
-use Rattle.loader_words.specs.Words.{slotOf, indexOf, flowOf, definitionOf, word, scanWords, slotWords, scansAt, slotsAt, selectAt, scanAt, slotAt, selectedAt, scansIn, slotsIn, selectsIn, planOfWords}
+use Rattle.loader_words.specs.Words.{wordSlot, indexOf, flowOf, definitionOf, word, scanWords, slotWords, scansAt, slotsAt, selectAt, scanAt, slotAt, selectedAt, scansIn, slotsIn, selectsIn, planOfWords}
 use Rattle.loader_plan_words.specs.Write.{constantWord, valueWord, wordsOfScan, wordsOfSlot, wordsOfSelect, laid, countWords, wordsOfPlan}
 use Rattle.loader_plan_words.proofs.Written.{Filled, front-long, middle-long}
 
@@ -62,7 +62,7 @@ definition-back : (d : SlotDefinition) → definitionOf (constantWord d) (valueW
 definition-back Variable = refl
 definition-back (Constant v) = refl
 
-slot-back : (s : Slot) → s .0 ≤ largest → slotOf (s .0) ≡ s
+slot-back : (s : Slot) → s .0 ≤ largest → wordSlot (s .0) ≡ s
 slot-back s h = rw (min-eq-left h) refl
 
 -- the numbers of slots are u16, as the code holds them

@@ -57,11 +57,11 @@ abbrev pub queryWords : ℕ
 queryWords = variablesAt + maxSelects
 
 -- a slot's number and a variable's
-abbrev pub slotOf : ℕ → Slot
-slotOf w = record { 0 = min w largest }
+abbrev pub wordSlot : ℕ → Slot
+wordSlot w = record { 0 = min w largest }
 
-abbrev pub varOf : ℕ → Var
-varOf w = record { 0 = min w largest }
+abbrev pub wordVar : ℕ → Var
+wordVar w = record { 0 = min w largest }
 
 -- not an index and a flow: read as out-out over eavt, which is refused (21)
 abbrev pub isNoKind : ℕ → ℕ → Bool
@@ -78,8 +78,8 @@ abbrev pub definitionOf : ℕ → ℕ → SlotDefinition
 definitionOf k v = cond (eqb k 1) (Constant v) Variable
 
 -- 1 and a constant, 0 and a variable; anything else is a variable that no query has (14)
-abbrev pub valueOf : ℕ → ℕ → QueryValue
-valueOf k v = cond (eqb k 1) (Const v) (cond (eqb k 0) (AVar (varOf v)) (AVar (varOf largest)))
+abbrev pub wordValue : ℕ → ℕ → QueryValue
+wordValue k v = cond (eqb k 1) (Const v) (cond (eqb k 0) (AVar (wordVar v)) (AVar (wordVar largest)))
 
 -- the word at a place
 abbrev pub word : List ℕ → ℕ → ℕ
@@ -92,16 +92,16 @@ scanAt ws i =
     record {
       index = indexOf (word ws at) (word ws (at + 1));
       flow = flowOf (word ws at) (word ws (at + 1));
-      entity = slotOf (word ws (at + 2));
+      entity = wordSlot (word ws (at + 2));
       attribute = record { 0 = word ws (at + 3) };
-      value = slotOf (word ws (at + 4));
+      value = wordSlot (word ws (at + 4));
     }
 
 abbrev pub slotAt : List ℕ → ℕ → SlotRecord
 slotAt ws i = let at = slotsAt + slotWords * i in record { definition = definitionOf (word ws at) (word ws (at + 1)) }
 
 abbrev pub selectedAt : List ℕ → ℕ → Slot
-selectedAt ws i = slotOf (word ws (selectAt + i))
+selectedAt ws i = wordSlot (word ws (selectAt + i))
 
 abbrev pub scansIn : List ℕ → List Scan
 scansIn ws = tabled (scanAt ws) maxScans
@@ -127,10 +127,10 @@ planOfWords ws = record {
 abbrev pub statementAt : List ℕ → ℕ → Statement
 statementAt ws i =
     let at = statementsAt + statementWords * i in
-    record { entity = varOf (word ws at); attribute = record { 0 = word ws (at + 1) }; value = valueOf (word ws (at + 2)) (word ws (at + 3)) }
+    record { entity = wordVar (word ws at); attribute = record { 0 = word ws (at + 1) }; value = wordValue (word ws (at + 2)) (word ws (at + 3)) }
 
 abbrev pub variableAt : List ℕ → ℕ → Var
-variableAt ws i = varOf (word ws (variablesAt + i))
+variableAt ws i = wordVar (word ws (variablesAt + i))
 
 abbrev pub statementsIn : List ℕ → List Statement
 statementsIn ws = tabled (statementAt ws) maxStatements

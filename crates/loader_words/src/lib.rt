@@ -34,7 +34,7 @@ ghost use mathlib.Core.Path.{_≡_};
 ghost use Prim.Native.Nat.{_<_, min};
 ghost use Rattle.capacity.specs.Capacity.{maxScans, maxSlots, maxSelects, maxStatements};
 ghost use Rattle.query.specs.Query.{largest};
-ghost use Rattle.loader_words.specs.Words.{isNoKind, indexOf, flowOf, definitionOf, valueOf, scanAt, slotAt, selectedAt, statementAt, variableAt, scansIn, slotsIn, selectsIn, statementsIn, variablesIn, planOfWords, queryOfWords};
+ghost use Rattle.loader_words.specs.Words.{isNoKind, indexOf, flowOf, definitionOf, wordValue, scanAt, slotAt, selectedAt, statementAt, variableAt, scansIn, slotsIn, selectsIn, statementsIn, variablesIn, planOfWords, queryOfWords};
 
 // The words of a scan, after the first, which is its index; and of a slot, after the first, which says whether it is a constant.
 pub const SCAN_FLOW: usize = 1;
@@ -282,7 +282,7 @@ fn definition_of(is_constant: u64, value: u64) -> SlotDefinition
 }
 
 fn value_of(is_constant: u64, value: u64) -> QueryValue
-    ensures { λ r. ⌜ r ≡ valueOf «is_constant» value ⌝ }
+    ensures { λ r. ⌜ r ≡ wordValue «is_constant» value ⌝ }
 {
     if is_constant == 1 {
         return QueryValue::Const(value);

@@ -13,7 +13,7 @@ use Rattle.plan.specs.Plan.{SamePlan, scansOf, flowsFault}
 use Rattle.plan_check.specs.Check.{checkOf}
 use Rattle.cost.specs.Cost.{costOf}
 use Rattle.listing.specs.declared.NextPlan.{NextPlan}
-use Rattle.listing.specs.Next.{nextScans, isNewScans, withScans, nextOf}
+use Rattle.listing.specs.Next.{nextScans, isNewScans, withScans, nextPlanOf}
 use Rattle.listing.proofs.NextLists.{next-length, with-scans}
 use Rattle.visits.specs.Visits.{Tables, rowList}
 use Rattle.eval.specs.Evaluation.{evaluationFault, evaluateOf, bufferAfter}
@@ -45,8 +45,8 @@ module _ (p q : Plan) (e : SamePlan p q) where
         selects = e .selects;
       }
 
-  pub next-alike : (nextOf p .verdict ≡ nextOf q .verdict) × (nextOf p .«is_new» ≡ nextOf q .«is_new») × SamePlan (nextOf p .plan) (nextOf q .plan)
-  unfolding nextOf
+  pub next-alike : (nextPlanOf p .verdict ≡ nextPlanOf q .verdict) × (nextPlanOf p .«is_new» ≡ nextPlanOf q .«is_new») × SamePlan (nextPlanOf p .plan) (nextPlanOf q .plan)
+  unfolding nextPlanOf
   next-alike = rw (flows-alike, e .scans) (go (flowsFault q) (isNewScans (scansOf q)) p q _ _ e stepped-alike)
     where
       stepped : Verdict → Bool → Plan → Plan → NextPlan

@@ -15,13 +15,13 @@ use Rattle.query_check.specs.Refusals.{constants}
 use Rattle.query_check.specs.Below.{Below}
 use Rattle.plan.specs.declared.Scan.{Scan}
 use Rattle.plan.specs.declared.SlotRecord.{SlotRecord}
-use Rattle.plan_check.specs.Check.{written}
+use Rattle.plan_check.specs.Check.{isWritten}
 use Rattle.planner.specs.Planning.{slotsOfConstants, scansFor}
 use Rattle.planner.proofs.Statements.{length-slots}
 use Rattle.planned.proofs.Written.{written-named}
 use Rattle.listing.proofs.SameAccesses.{SameScans, same-written}
 use Rattle.tables.specs.Passed.{Passed}
-use Rattle.visits.specs.Visits.{Tables, valueOf}
+use Rattle.visits.specs.Visits.{Tables, startValue}
 use Rattle.meaning.specs.Demand.{areFacts}
 use Rattle.meaning.proofs.Counted.{image-of, times-image}
 use Rattle.meaning.proofs.Finals.{finals, Fitting, Stays, finals-only, finals-once}
@@ -37,11 +37,11 @@ pub record Answering (n : ℕ) (ss : List Statement) (scans : List Scan) : Type 
   pub stays : Stays (n + constants ss) scans
   pub below : (j : ℕ) (d : Statement) → j < length ss → Below n (getD ss j d)
   pub all-named : (x : ℕ) → x < n → named ss x ≡ true
-  pub constants-kept : (j : ℕ) → j < constants ss → written scans (n + j) ≡ false
+  pub constants-kept : (j : ℕ) → j < constants ss → isWritten scans (n + j) ≡ false
 
 module _ (ts : Tables) (passed : Passed (ts .aevt) (ts .avet) (ts .eavt)) (n : ℕ) (ss : List Statement) (scans : List Scan) (ok : Answering n ss scans) where
   constants-long : length (constantsOf ss) ≡ constants ss
-  constants-long = length-map (slotsOfConstants ss) (λ (s : SlotRecord). valueOf (s .definition)) ∙ length-slots ss
+  constants-long = length-map (slotsOfConstants ss) (λ (s : SlotRecord). startValue (s .definition)) ∙ length-slots ss
 
   begun-long : length (begun n ss) ≡ n + constants ss
   begun-long = simp (length-append, length-replicate, constants-long)
@@ -60,7 +60,7 @@ module _ (ts : Tables) (passed : Passed (ts .aevt) (ts .avet) (ts .eavt)) (n : �
         (λ j h. past a e j) ∙ f;
   }
     where
-      go : (x : ℕ) → written scans x ≡ false → (b : Bool) → leb n x ≡ b → getD (a ++ constantsOf ss) x 0 ≡ getD (begun n ss) x 0
+      go : (x : ℕ) → isWritten scans x ≡ false → (b : Bool) → leb n x ≡ b → getD (a ++ constantsOf ss) x 0 ≡ getD (begun n ss) x 0
       go x h true b =
           let low = leb-true n x b in
           let q : n + (x - n) ≡ x = omega arith in

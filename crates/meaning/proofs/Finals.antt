@@ -22,7 +22,7 @@ use Rattle.plan.specs.declared.Scan.{Scan}
 use Rattle.plan.specs.declared.Index.{Index}
 use Rattle.plan.specs.declared.Index.the-variants.{Aevt, Avet, Eavt}
 use Rattle.plan.specs.Plan.{zeroScan}
-use Rattle.plan_check.specs.Check.{written as isWritten}
+use Rattle.plan_check.specs.Check.{isWritten}
 use Rattle.visits.specs.Visits.{Tables, tableOf, rowFor, inputs, wanted, visited, standing, visits, slotsAt}
 use Rattle.visits.specs.Sound.{Steady, Agree}
 use Rattle.visits.proofs.Slots.{key-agree, standing-length, standing-agree, standing-back}

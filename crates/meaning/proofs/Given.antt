@@ -17,7 +17,7 @@ use Rattle.query_check.proofs.Variables.{statements-below}
 use Rattle.plan.specs.declared.Scan.{Scan}
 use Rattle.plan.specs.declared.SlotRecord.{SlotRecord}
 use Rattle.plan.specs.declared.Plan.{Plan}
-use Rattle.plan.specs.Plan.{variableSlot, scansOf, slotsOf, selectsOf as slotsSelected}
+use Rattle.plan.specs.Plan.{variableSlot, scansOf, slotsOf, slotsSelected}
 use Rattle.plan_check.specs.Check.{checkOf}
 use Rattle.plan_check.specs.Promised.{Promised}
 use Rattle.plan_check.proofs.Promises.{promises}
@@ -31,7 +31,7 @@ use Rattle.listing.specs.Next.{withScans}
 use Rattle.listing.proofs.SameAccesses.{SameScans}
 use Rattle.listing.proofs.Passes.{same-scans, same-passes}
 use Rattle.tables.specs.Passed.{Passed}
-use Rattle.visits.specs.Visits.{Tables, valueOf, initialSlots, selected, slotsAt, visits, rowList}
+use Rattle.visits.specs.Visits.{Tables, startValue, initialSlots, selected, slotsAt, visits, rowList}
 use Rattle.visits.proofs.Steady.{promised-sound, promised-last, constant-kept}
 use Rattle.query_check.specs.Clear.{Clear}
 use Rattle.meaning.specs.Demand.{through, Meaning}
@@ -57,7 +57,7 @@ map-through n vs h g (w ∷ ws) =
     cc
 
 -- a variable's slot holds 0 at first
-variables-begun : (n : ℕ) → map (λ (s : SlotRecord). valueOf (s .definition)) (replicate n variableSlot) ≡ replicate n 0
+variables-begun : (n : ℕ) → map (λ (s : SlotRecord). startValue (s .definition)) (replicate n variableSlot) ≡ replicate n 0
 variables-begun zero = refl
 variables-begun (suc n) = ap (λ (l : List ℕ). 0 ∷ l) (variables-begun n)
 
@@ -114,8 +114,8 @@ module _ (q : Query) (clear : Clear q) (accepted : planOf q .verdict ≡ Fine) w
 
     begun-is : initialSlots listedPlan ≡ begun n ss
     begun-is =
-        ap (map (λ (s : SlotRecord). valueOf (s .definition))) first-slots ∙
-        map-append (λ (s : SlotRecord). valueOf (s .definition)) (replicate n variableSlot) (slotsOfConstants ss) ∙
+        ap (map (λ (s : SlotRecord). startValue (s .definition))) first-slots ∙
+        map-append (λ (s : SlotRecord). startValue (s .definition)) (replicate n variableSlot) (slotsOfConstants ss) ∙
         ap (λ (z : List ℕ). z ++ constantsOf ss) (variables-begun n)
 
     answering : Answering n ss l

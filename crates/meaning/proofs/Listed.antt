@@ -12,7 +12,7 @@ use Rattle.plan.specs.declared.Scan.{Scan}
 use Rattle.plan.specs.declared.Plan.{Plan}
 use Rattle.plan.specs.Plan.{scansOf, flowsFault}
 use Rattle.listing.specs.declared.NextPlan.{NextPlan}
-use Rattle.listing.specs.Next.{nextOf}
+use Rattle.listing.specs.Next.{nextPlanOf}
 use Rattle.listing.specs.Listing.{combinations, Initial}
 use Rattle.listing.proofs.Listed.{wheels}
 use Rattle.listing.proofs.NextLists.{planAt, plan-first, next-steps, next-ends}
@@ -39,5 +39,5 @@ module _ (p : Plan) (fits : p .«scan_count» ≤ length (p .scans)) (fine : flo
       let w = reached-listed y in
       ⊎-elim (λ (last : suc t ≡ length all). absurd (false≢true (sym (ap (λ (n : NextPlan). n .«is_new») (next-ends p fits fine begun t last)) ∙ rw (w .1) at e)))
       (λ (more : suc t < length all).
-      (more, ap (λ (x : Plan). nextOf x .plan) (w .1) ∙ ap (λ (n : NextPlan). n .plan) (next-steps p fits fine begun t more)))
+      (more, ap (λ (x : Plan). nextPlanOf x .plan) (w .1) ∙ ap (λ (n : NextPlan). n .plan) (next-steps p fits fine begun t more)))
       (eq-or-lt-of-le (w .0))

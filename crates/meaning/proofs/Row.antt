@@ -23,8 +23,8 @@ use Rattle.plan.specs.declared.EntityValueFlow.{EntityValueFlow}
 use Rattle.plan.specs.declared.EntityValueFlow.the-variants.{OutOut as BothOut, InOut as EntityIn, OutIn as ValueIn, InIn as BothIn}
 use Rattle.plan.specs.declared.Access.the-variants.{Reads, Writes}
 use Rattle.plan.specs.Plan.{inOrder, firstSlot, secondSlot, firstAccess, secondAccess, entityValueFlow, outOutEavt}
-use Rattle.plan_check.specs.Check.{written as isWritten}
-use Rattle.visits.specs.Visits.{Tables, tableOf, rowFor, factIn, inputs, wanted, written, standing}
+use Rattle.plan_check.specs.Check.{isWritten}
+use Rattle.visits.specs.Visits.{Tables, tableOf, rowFor, factIn, inputs, wanted, withFact, standing}
 use Rattle.lists.proofs.Tests.{neither}
 use Rattle.visits.specs.Sound.{Steady}
 use Rattle.visits.proofs.Stood.{no-yes}
@@ -74,7 +74,7 @@ left : (x : Index) (f : Flow) (e : Slot) (a : Aid) (v : Slot) (slots : List ℕ)
     → (secondAccess f ≡ Writes → e .0 ≡ v .0 → ⊥) → e .0 < length slots → v .0 < length slots →
     let s = scan x f e a v in
     let r = r₀ ∷ r₁ ∷ r₂ ∷ [] in
-    begins r (take (1 + inputs f) (rowFor x (wanted s slots))) ≡ true → wanted s (written (entityValueFlow f x) e v (factIn x r) slots) ≡ factIn x r
+    begins r (take (1 + inputs f) (rowFor x (wanted s slots))) ≡ true → wanted s (withFact (entityValueFlow f x) e v (factIn x r) slots) ≡ factIn x r
 left Aevt OutOut e a v slots r₀ r₁ r₂ o n ei vi b =
     let p = first-word r₀ _ _ _ b in
     same-fact (set-first slots (e .0) (v .0) (n refl) ei r₁ r₂) (sym (p .0)) (set-second slots (e .0) (v .0) vi r₁ r₂)
@@ -108,7 +108,7 @@ left Eavt InIn e a v slots r₀ r₁ r₂ o n ei vi b =
     same-fact (sym (p .0)) (sym (q .0)) (sym (first-word r₂ _ _ _ (q .1) .0))
 
 -- to write a fact that the slots state already changes nothing
-same-written : (w : EntityValueFlow) (s : Scan) (slots : List ℕ) → written w (s .entity) (s .value) (wanted s slots) slots ≡ slots
+same-written : (w : EntityValueFlow) (s : Scan) (slots : List ℕ) → withFact w (s .entity) (s .value) (wanted s slots) slots ≡ slots
 same-written BothOut s slots = rw (set-getD slots (s .entity .0) 0) (set-getD slots (s .value .0) 0)
 same-written EntityIn s slots = set-getD slots (s .value .0) 0
 same-written ValueIn s slots = set-getD slots (s .entity .0) 0

@@ -16,7 +16,7 @@ use Rattle.query.specs.Query.{statementsOf, selectsOf, named, zeroVar}
 use Rattle.query_check.specs.Clear.{Clear}
 use Rattle.plan.specs.declared.Scan.{Scan}
 use Rattle.plan.specs.declared.Plan.{Plan}
-use Rattle.plan.specs.Plan.{zeroScan, scansOf, selectsOf as slotsSelected, countsFault, outOutFault, flowsFault}
+use Rattle.plan.specs.Plan.{zeroScan, scansOf, slotsSelected, countsFault, outOutFault, flowsFault}
 use Rattle.plan_check.specs.Check.{checkOf}
 use Rattle.plan_check.proofs.Promises.{promises}
 use Rattle.planner.specs.Planning.{slotOf, planOf}

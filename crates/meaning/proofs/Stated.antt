@@ -18,14 +18,14 @@ use Rattle.plan.specs.declared.SlotRecord.{SlotRecord}
 use Rattle.query.specs.Query.{named}
 use Rattle.planner.specs.Planning.{slotOf, constantSlots, slotsOfConstants, valueSlot, isValueSet, scanFor, scanOf, scansFor}
 use Rattle.listing.proofs.SameAccesses.{SameAccesses, SameScans, none, more}
-use Rattle.visits.specs.Visits.{Tables, wanted, valueOf}
+use Rattle.visits.specs.Visits.{Tables, wanted, startValue}
 use Rattle.meaning.specs.Demand.{isFact, valueUnder, stated, areFacts}
 use Rattle.meaning.proofs.Row.{same-fact}
 use Rattle.meaning.proofs.Finals.{scanFacts}
 
 -- the values of the statements' constants, in order
 abbrev pub constantsOf : List Statement → List ℕ
-constantsOf ss = map (λ (s : SlotRecord). valueOf (s .definition)) (slotsOfConstants ss)
+constantsOf ss = map (λ (s : SlotRecord). startValue (s .definition)) (slotsOfConstants ss)
 
 -- each of the four scans has the entity, attribute and value that it is chosen for
 choice-wanted : (x y : Bool) (e : Slot) (a : Aid) (v : Slot) (slots : List ℕ)
@@ -47,7 +47,7 @@ module _ (n : ℕ) (slots a : List ℕ) (assigned : (x : ℕ) → x < n → getD
   abbrev Holds : List ℕ → ℕ → ℕ → Type 0
   Holds l c k = (j : ℕ) → j < c → getD slots (k + j) 0 ≡ getD l j 0
 
-  value-stated : (v : QueryValue) (k : ℕ) → ValueBelow n v → (l : List Statement) → Holds (map (λ (s : SlotRecord). valueOf (s .definition)) (constantSlots v ++ slotsOfConstants l)) (constantsIn v + constants l) k
+  value-stated : (v : QueryValue) (k : ℕ) → ValueBelow n v → (l : List Statement) → Holds (map (λ (s : SlotRecord). startValue (s .definition)) (constantSlots v ++ slotsOfConstants l)) (constantsIn v + constants l) k
       → (getD slots (valueSlot v k .0) 0 ≡ valueUnder a v) × Holds (constantsOf l) (constants l) (k + constantsIn v)
   value-stated (Const c) k b l h =
       (rw add-zero at (h 0 (omega arith)), λ j g. let e : k + suc j ≡ k + 1 + j = omega arith in rw e at (h (suc j) (omega arith)))

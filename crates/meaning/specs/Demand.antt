@@ -1,6 +1,6 @@
 -- Demand 3: the row list is exactly the assignments that make every statement a fact, each once, seen through the select list (`RowsDemanded`);
 -- the search weighs every plan of every sound order and picks the first of least cost (`SearchDemanded`). Plans, rows and costs are those
--- of demand 2: `planOf`, `nextOf`, `evaluateOf`, `bufferAfter`, `costOf` and `searchOf` are what the contracts say that the functions answer.
+-- of demand 2: `planOf`, `nextPlanOf`, `evaluateOf`, `bufferAfter`, `costOf` and `searchOf` are what the contracts say that the functions answer.
 use mathlib.Core.Path.{_≡_}
 use mathlib.Core.Logic.{_⊎_, _↔_}
 use mathlib.Core.Bool.{Bool, true, false, _&&_}
@@ -24,7 +24,7 @@ use Rattle.query_check.specs.Clear.{Clear}
 use Rattle.plan.specs.declared.Plan.{Plan}
 use Rattle.cost.specs.Cost.{costOf}
 use Rattle.planner.specs.Planning.{planOf}
-use Rattle.listing.specs.Next.{nextOf}
+use Rattle.listing.specs.Next.{nextPlanOf}
 use Rattle.search.specs.declared.Found.{Found}
 use Rattle.search.specs.Search.{Candidate, orders, arranged, arrangedQuery, candidates, foundAs, notFound, searchOf}
 use Rattle.tables.specs.Rows.{rowsOf}
@@ -104,7 +104,7 @@ pub record SoundOrder (q : Query) (o : List ℕ) : Type 0 where
 -- the plans listed are the initial one and each reached by a yes of `next`; number t by t of them
 pub data Reached (p : Plan) : ℕ → Plan → Type 0 where
   initial-plan : Reached p 0 p
-  by-yes : {t : ℕ} {r : Plan} → Reached p t r → nextOf r .«is_new» ≡ true → Reached p (suc t) (nextOf r .plan)
+  by-yes : {t : ℕ} {r : Plan} → Reached p t r → nextPlanOf r .«is_new» ≡ true → Reached p (suc t) (nextPlanOf r .plan)
 
 -- plan number t of a sound order. The initial one is what `plan` answers for the query with its statements in that order
 pub record PlanIn (q : Query) (o : List ℕ) (t : ℕ) (p : Plan) : Type 0 where

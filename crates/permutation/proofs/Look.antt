@@ -1,4 +1,4 @@
--- What one look at a position comes to: laws of `nextOf`, for the proof of `next_value` and for callers.
+-- What one look at a position comes to: laws of `nextSwapOf`, for the proof of `next_value` and for callers.
 use mathlib.Core.Path.{_≡_, refl, sym, ap, _∙_}
 use Prim.Native.Nat.{ℕ, zero, suc, _+_, _-_, _≤_, _<_}
 use native.Mathlib.Numerals.{add-one}
@@ -13,7 +13,7 @@ use Rattle.refusal.specs.declared.Verdict.the-variants.{Fine}
 use Rattle.refusal.proofs.Fine.{refuse-fine}
 use Rattle.permutation.specs.declared.Permutations.{Permutations}
 use Rattle.capacity.specs.Capacity.{maxElements}
-use Rattle.permutation.specs.Swaps.{elementsFault, stateOf, swapAt, given, noSwap, stopFrom, stopOf, cleared, stepAt, nextOf}
+use Rattle.permutation.specs.Swaps.{elementsFault, stateOf, swapAt, given, noSwap, stopFrom, stopOf, cleared, stepAt, nextSwapOf}
 
 -- 40 is given exactly over the capacity
 pub few-fine : (n : ℕ) → n ≤ maxElements → elementsFault n ≡ Fine
@@ -25,8 +25,8 @@ unfolding elementsFault
 fine-few n e = ltb-false maxElements n (refuse-fine _ _ _ e)
 
 -- a state within the capacity: a step stops where its look stops
-pub looks : (s : Permutations) → s .n ≤ maxElements → nextOf s ≡ stepAt s (stopOf s)
-unfolding nextOf
+pub looks : (s : Permutations) → s .n ≤ maxElements → nextSwapOf s ≡ stepAt s (stopOf s)
+unfolding nextSwapOf
 looks s m = rw (few-fine (s .n) m)
 
 -- with no position passed the counters stay
@@ -47,12 +47,12 @@ room n i h = omega arith
 
 -- a counter below its position gives the swap
 pub next-gives : (n : ℕ) (ks : List ℕ) (i : ℕ) → n ≤ maxElements → i < n → getD ks i 0 < i
-    → nextOf (stateOf n ks i) ≡ record { next = given (swapAt i (getD ks i 0)); state = stateOf n (set ks i (getD ks i 0 + 1)) 0 }
+    → nextSwapOf (stateOf n ks i) ≡ record { next = given (swapAt i (getD ks i 0)); state = stateOf n (set ks i (getD ks i 0 + 1)) 0 }
 unfolding stopFrom
 next-gives n ks i m h k = looks (stateOf n ks i) m ∙ rw (room n i h, lt-ltb (getD ks i 0) i k, lt-ltb i n h, cleared-none ks i)
 
 -- past the last position none is left
-pub next-ends : (n : ℕ) (ks : List ℕ) (i : ℕ) → n ≤ maxElements → n ≤ i → nextOf (stateOf n ks i) ≡ record { next = noSwap Fine; state = stateOf n ks i }
+pub next-ends : (n : ℕ) (ks : List ℕ) (i : ℕ) → n ≤ maxElements → n ≤ i → nextSwapOf (stateOf n ks i) ≡ record { next = noSwap Fine; state = stateOf n ks i }
 unfolding stopFrom
 next-ends n ks i m h = let e : n - i ≡ 0 = omega arith in looks (stateOf n ks i) m ∙ rw (e, le-ltb i n h, cleared-none ks i)
 
@@ -74,7 +74,7 @@ stop-set ks (suc left) i j h = rw (getD-set-other ks i j 0 0 (omega arith), stop
 
 -- any other is set to 0, and the next position is looked at
 pub next-turns : (n : ℕ) (ks : List ℕ) (i : ℕ) → n ≤ maxElements → n ≤ length ks → i < n → i ≤ getD ks i 0
-    → nextOf (stateOf n ks i) ≡ nextOf (stateOf n (set ks i 0) (i + 1))
+    → nextSwapOf (stateOf n ks i) ≡ nextSwapOf (stateOf n (set ks i 0) (i + 1))
 next-turns n ks i m l h k =
     let p : ℕ = stopFrom ks (n - (i + 1)) (i + 1) in
     let q : i < p = omega (arith, stop-from ks (n - (i + 1)) (i + 1)) in

@@ -41,7 +41,7 @@ given w = record { verdict = Fine; «is_some» = true; swap = w }
 abbrev pub noSwap : Verdict → NextSwap
 noSwap v = record { verdict = v; «is_some» = false; swap = record { 0 = 0; 1 = 0 } }
 
--- where a look from position i on stops that has so many positions left: at the first whose counter is below it, else past them all
+-- where a look from position i on stops with `left` positions to look at: at the first whose counter is below it, else past them all
 unfoldable pub stopFrom : List ℕ → ℕ → ℕ → ℕ
 stopFrom ks zero i = i
 stopFrom ks (suc left) i = cond (ltb (getD ks i 0) i) i (stopFrom ks left (i + 1))
@@ -62,5 +62,5 @@ stepAt s p =
     (record { next = noSwap Fine; state = stateOf (s .n) (cleared (s .i) p (s .ks)) p })
 
 -- a step; where it is refused, no swap, and the state as it was given
-unfoldable pub nextOf : Permutations → Step
-nextOf s = unless (elementsFault (s .n)) (λ v. record { next = noSwap v; state = s }) (stepAt s (stopOf s))
+unfoldable pub nextSwapOf : Permutations → Step
+nextSwapOf s = unless (elementsFault (s .n)) (λ v. record { next = noSwap v; state = s }) (stepAt s (stopOf s))

@@ -13,7 +13,7 @@ use capacity::MAX_ELEMENTS;
 use refusal::Refusal;
 use refusal::Verdict;
 ghost use mathlib.Core.Path.{_≡_};
-ghost use Rattle.permutation.specs.Swaps.{elementsFault, freshOf, nextOf};
+ghost use Rattle.permutation.specs.Swaps.{elementsFault, freshOf, nextSwapOf};
 
 // A state that generates all permutations on n elements.
 //
@@ -77,7 +77,7 @@ impl Permutations {
 
     // The next swap, until all permutations have been visited, and the state after it.
     pub fn next_value(self) -> Step
-        ensures { λ r. ⌜ r ≡ nextOf self ⌝ }
+        ensures { λ r. ⌜ r ≡ nextSwapOf self ⌝ }
     {
         let n = self.n;
         let verdict = elements_fault(n);
@@ -122,7 +122,7 @@ impl Permutations {
 
     // Return the next swap, until all permutations have been visited: the lent state is changed in place.
     pub fn next(&mut self) -> NextSwap
-        ensures { λ r. ⌜ (r ≡ nextOf (now (self .entry)) .next) × (now (self .exit) ≡ nextOf (now (self .entry)) .state) ⌝ }
+        ensures { λ r. ⌜ (r ≡ nextSwapOf (now (self .entry)) .next) × (now (self .exit) ≡ nextSwapOf (now (self .entry)) .state) ⌝ }
     {
         let before = *self;
         let step = before.next_value();

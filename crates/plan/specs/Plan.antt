@@ -78,8 +78,8 @@ scansOf p = take (p .«scan_count») (p .scans)
 abbrev pub slotsOf : Plan → List SlotRecord
 slotsOf p = take (p .«slot_count») (p .slots)
 
-abbrev pub selectsOf : Plan → List Slot
-selectsOf p = take (p .«select_count») (p .select)
+abbrev pub slotsSelected : Plan → List Slot
+slotsSelected p = take (p .«select_count») (p .select)
 
 -- two plans are equal if their counts and what lies below these agree
 pub record SamePlan (p q : Plan) : Type 0 where
@@ -88,7 +88,7 @@ pub record SamePlan (p q : Plan) : Type 0 where
   pub select-counts : p .«select_count» ≡ q .«select_count»
   pub scans : scansOf p ≡ scansOf q
   pub slots : slotsOf p ≡ slotsOf q
-  pub selects : selectsOf p ≡ selectsOf q
+  pub selects : slotsSelected p ≡ slotsSelected q
 
 -- past its counts a plan made here holds variable slots, out-out aevt scans and selects, all numbers 0
 abbrev pub zeroSlot : Slot
@@ -115,7 +115,7 @@ emptyPlan = record {
   «select_count» = 0;
 }
 
--- 20: plan counts over 96 slots, 48 scans or 32 selects
+-- 20: a plan counts more slots, scans or selects than there is room for
 unfoldable pub countsFault : ℕ → ℕ → ℕ → Verdict
 countsFault scans slots selects = refuseIf (ltb maxSlots slots || ltb maxScans scans || ltb maxSelects selects) 20 0
 
@@ -129,7 +129,7 @@ pub record Counted (scans slots selects : ℕ) : Type 0 where
 unfoldable pub outOutFault : List Scan → ℕ → Verdict
 outOutFault ss i = refuseFirst (λ (s : Scan). outOutEavt (s .flow) (s .index)) 21 i ss
 
--- cost and `next` of an array of scans of which so many count: 20 where that is over 48, then 21 at the lowest such scan
+-- cost and `next` of an array of scans of which the first k count: 20 where k is over the capacity, then 21 at the lowest such scan
 unfoldable pub scanFlowsFault : List Scan → ℕ → Verdict
 scanFlowsFault scans k = orElse (refuseIf (ltb maxScans k) 20 0) (outOutFault (take k scans) 0)
 

@@ -300,7 +300,7 @@ pub fn check_flows(plan: Plan) -> Verdict
     check_scan_flows(scans, scan_count)
 }
 
-// The same of scans without a plan, of which so many count.
+// The same of scans without a plan, of which the first `scan_count` count.
 pub fn check_scan_flows(scans: [Scan; MAX_SCANS], scan_count: usize) -> Verdict
     ensures { λ r. ⌜ r ≡ scanFlowsFault scans «scan_count» ⌝ }
 {

@@ -21,7 +21,7 @@ use Rattle.plan.specs.declared.SlotRecord.{SlotRecord}
 use Rattle.plan.specs.declared.Plan.{Plan}
 use Rattle.plan.specs.declared.Access.{Access}
 use Rattle.plan.specs.declared.Access.the-variants.{Reads, Writes}
-use Rattle.plan.specs.Plan.{firstSlot, secondSlot, firstAccess, secondAccess, outOutEavt, countsFault, zeroSlot, zeroScan, scansOf, slotsOf, selectsOf}
+use Rattle.plan.specs.Plan.{firstSlot, secondSlot, firstAccess, secondAccess, outOutEavt, countsFault, zeroSlot, zeroScan, scansOf, slotsOf, slotsSelected}
 use Rattle.plan.proofs.Counts.{counts-fine}
 use Rattle.plan_check.specs.Check.{firstWrites, isSet, accessFault, slotFault, scanFault, scansFault, unsetFault, initializationFault, selectsFault, checkOf}
 use Rattle.plan_check.specs.Promised.{Rightly, Fits, Promised}
@@ -116,7 +116,7 @@ promises p e =
       some-select = omega (arith, eqb-false);
       scans-fit = scans-fine slots [] scans 0 .0 (f .0);
       all-set = λ k h. rw zero-add at (unset-fine slots scans (length slots) 0 .0 (f .1) k h);
-      selects-named = selects-fine (length slots) (selectsOf p) 0 .0 (d .1);
+      selects-named = selects-fine (length slots) (slotsSelected p) 0 .0 (d .1);
     }
 
 -- and all that it takes to pass
@@ -129,5 +129,5 @@ promised-passes p q =
     (simp (
       scans-fine slots [] scans 0 .1 (q .scans-fit),
       unset-fine slots scans (length slots) 0 .1 (λ k h. rw zero-add (q .all-set k h)),
-      selects-fine (length slots) (selectsOf p) 0 .1 (q .selects-named),
+      selects-fine (length slots) (slotsSelected p) 0 .1 (q .selects-named),
     ))

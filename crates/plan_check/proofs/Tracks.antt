@@ -22,7 +22,7 @@ use Rattle.plan.specs.declared.Access.the-variants.{Reads, Writes}
 use Rattle.plan.specs.Plan.{isConstant, variableSlot, firstAccess, secondAccess, firstSlot, secondSlot}
 use Rattle.plan_check.specs.declared.Initialization.{Initialization}
 use Rattle.plan_check.specs.declared.Initialization.the-variants.{Unset, Set}
-use Rattle.plan_check.specs.Check.{writesTo, firstWrites, secondWrites, written, isSet, slotFault, scanFault, scansFault, unsetFault, initializationFault}
+use Rattle.plan_check.specs.Check.{writesTo, firstWrites, secondWrites, isWritten, isSet, slotFault, scanFault, scansFault, unsetFault, initializationFault}
 use Rattle.plan_check.specs.Record.{stateOf, isSetState, constantsRecord, accessRecord, scanRecord, slotFaultIn, scanFaultIn, unsetFaultIn, scansFaultIn}
 
 -- a record's first n entries say what f says
@@ -38,7 +38,7 @@ said true = refl
 -- before the first scan the constants are set
 constants-track : (slots : List SlotRecord) (rec : List Initialization) → length slots ≤ length rec
     → take (length slots) rec ≡ constantsRecord slots → Tracks (length slots) rec (isSet slots [])
-unfolding isSet written
+unfolding isSet isWritten
 constants-track slots rec l e =
     let state : SlotRecord → Initialization = λ s. stateOf (isConstant (s .definition)) in
     record {
@@ -68,8 +68,8 @@ slot-tracks {n} {rec} {f} t a x i = go (leb n (x .0)) refl
 
 -- what one scan more sets
 written-more : (before : List Scan) (s : Scan) (k : ℕ)
-    → written (before ++ (s ∷ [])) k ≡ (written before k || firstWrites s k || secondWrites s k)
-unfolding written
+    → isWritten (before ++ (s ∷ [])) k ≡ (isWritten before k || firstWrites s k || secondWrites s k)
+unfolding isWritten
 written-more [] s k = or-false (firstWrites s k || secondWrites s k)
 written-more (b ∷ bs) s k = rw (written-more bs s k) (simp or-assoc)
 

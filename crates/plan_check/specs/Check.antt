@@ -15,7 +15,7 @@ use Rattle.plan.specs.declared.SlotRecord.{SlotRecord}
 use Rattle.plan.specs.declared.Plan.{Plan}
 use Rattle.plan.specs.declared.Access.{Access}
 use Rattle.plan.specs.declared.Access.the-variants.{Reads, Writes}
-use Rattle.plan.specs.Plan.{firstSlot, secondSlot, firstAccess, secondAccess, outOutEavt, isConstant, variableSlot, scansOf, slotsOf, selectsOf, countsFault}
+use Rattle.plan.specs.Plan.{firstSlot, secondSlot, firstAccess, secondAccess, outOutEavt, isConstant, variableSlot, scansOf, slotsOf, slotsSelected, countsFault}
 
 -- an access to slot number a writes slot number k
 abbrev pub writesTo : Access → ℕ → ℕ → Bool
@@ -29,13 +29,13 @@ abbrev pub secondWrites : Scan → ℕ → Bool
 secondWrites s k = writesTo (secondAccess (s .flow)) (secondSlot s .0) k
 
 -- one of the scans writes slot number k
-unfoldable pub written : List Scan → ℕ → Bool
-written [] k = false
-written (s ∷ ss) k = firstWrites s k || secondWrites s k || written ss k
+unfoldable pub isWritten : List Scan → ℕ → Bool
+isWritten [] k = false
+isWritten (s ∷ ss) k = firstWrites s k || secondWrites s k || isWritten ss k
 
 -- a slot is set after some scans if it is a constant, or one of them writes it
 unfoldable pub isSet : List SlotRecord → List Scan → ℕ → Bool
-isSet slots before k = isConstant (getD slots k variableSlot .definition) || written before k
+isSet slots before k = isConstant (getD slots k variableSlot .definition) || isWritten before k
 
 -- 23: writes a set slot; 24: reads an unset slot
 abbrev pub accessFault : Access → Bool → ℕ → Verdict
@@ -60,7 +60,7 @@ unfoldable pub scansFault : List SlotRecord → List Scan → List Scan → ℕ 
 scansFault slots before [] i = Fine
 scansFault slots before (s ∷ ss) i = orElse (scanFault slots before s i) (scansFault slots (before ++ (s ∷ [])) ss (i + 1))
 
--- 25: the lowest of so many slots from number k on that is never set
+-- 25: the lowest slot that is never set, of those from number k on
 unfoldable pub unsetFault : List SlotRecord → List Scan → ℕ → ℕ → Verdict
 unsetFault slots scans left k = refuseFirst (λ (j : ℕ). not (isSet slots scans j)) 25 k (span k left)
 
@@ -76,4 +76,4 @@ unfoldable pub checkOf : Plan → Verdict
 checkOf p =
     orElse (countsFault (p .«scan_count») (p .«slot_count») (p .«select_count»))
     (orElse (refuseIf (eqb (p .«select_count») 0) 13 0)
-    (orElse (initializationFault (slotsOf p) (scansOf p)) (selectsFault (length (slotsOf p)) (selectsOf p) 0)))
+    (orElse (initializationFault (slotsOf p) (scansOf p)) (selectsFault (length (slotsOf p)) (slotsSelected p) 0)))

@@ -10,7 +10,7 @@ use Rattle.plan.specs.declared.SlotRecord.{SlotRecord}
 use Rattle.plan.specs.declared.Plan.{Plan}
 use Rattle.plan.specs.declared.Access.{Access}
 use Rattle.plan.specs.declared.Access.the-variants.{Reads, Writes}
-use Rattle.plan.specs.Plan.{firstSlot, secondSlot, firstAccess, secondAccess, outOutEavt, zeroSlot, zeroScan, scansOf, slotsOf, selectsOf}
+use Rattle.plan.specs.Plan.{firstSlot, secondSlot, firstAccess, secondAccess, outOutEavt, zeroSlot, zeroScan, scansOf, slotsOf, slotsSelected}
 use Rattle.plan_check.specs.Check.{firstWrites, isSet}
 
 -- what is read is set, and what is written is not
@@ -36,4 +36,4 @@ pub record Promised (p : Plan) : Type 0 where
   pub some-select : 0 < p .«select_count»
   pub scans-fit : (j : ℕ) → j < length (scansOf p) → Fits (slotsOf p) (take j (scansOf p)) (getD (scansOf p) j zeroScan)
   pub all-set : (k : ℕ) → k < length (slotsOf p) → isSet (slotsOf p) (scansOf p) k ≡ true
-  pub selects-named : (i : ℕ) → i < length (selectsOf p) → getD (selectsOf p) i zeroSlot .0 < length (slotsOf p)
+  pub selects-named : (i : ℕ) → i < length (slotsSelected p) → getD (slotsSelected p) i zeroSlot .0 < length (slotsOf p)

@@ -11,7 +11,7 @@ use Rattle.plan.specs.declared.Slot.{Slot}
 use Rattle.plan.specs.declared.Scan.{Scan}
 use Rattle.plan.specs.declared.SlotRecord.{SlotRecord}
 use Rattle.plan.specs.declared.Plan.{Plan}
-use Rattle.plan.specs.Plan.{firstSlot, secondSlot, scansOf, slotsOf, selectsOf, SamePlan}
+use Rattle.plan.specs.Plan.{firstSlot, secondSlot, scansOf, slotsOf, slotsSelected, SamePlan}
 use Rattle.text_pieces.specs.Ascii.{ascii}
 use Rattle.text_pieces.specs.Decimal.{decimal}
 use Rattle.text_names.specs.Names.{nameStart, nameOf, constantAt}
@@ -64,4 +64,4 @@ module _ (slots : List SlotRecord) (names ends names′ ends′ : List ℕ) wher
 pub text-alike : (p q : Plan) (names ends names′ ends′ : List ℕ) → SamePlan p q → SameNames (slotsOf p) names ends names′ ends′ → textOf p names ends ≡ textOf q names′ ends′
 unfolding textOf
 text-alike p q names ends names′ ends′ e same =
-    rw (scans-alike (slotsOf p) names ends names′ ends′ same (scansOf p), selects-alike (slotsOf p) names ends names′ ends′ same (selectsOf p), e .slots, e .scans, e .selects)
+    rw (scans-alike (slotsOf p) names ends names′ ends′ same (scansOf p), selects-alike (slotsOf p) names ends names′ ends′ same (slotsSelected p), e .slots, e .scans, e .selects)

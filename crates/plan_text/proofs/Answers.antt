@@ -17,7 +17,7 @@ use Rattle.text_pieces.specs.Written.{largest, Written}
 use Rattle.text_names.specs.Names.{namesFault}
 use Rattle.plan_text.specs.declared.Formatted.{Formatted}
 use Rattle.plan_text.specs.Text.{textOf}
-use Rattle.plan_text.specs.Answer.{textFault, formattedOf, bufferAfter}
+use Rattle.plan_text.specs.Answer.{textFault, formattedOf, textAfter}
 
 module _ (p : Plan) (names ends : List ℕ) where
   abbrev text : List ℕ
@@ -65,13 +65,13 @@ module _ (p : Plan) (names ends : List ℕ) where
 
   module _ (l : List ℕ) where
     -- refused, nothing is written
-    pub after-refused : (r : Refusal) → textFault p names ends (length l) ≡ Refused r → l ≡ bufferAfter p names ends l
-    unfolding bufferAfter
+    pub after-refused : (r : Refusal) → textFault p names ends (length l) ≡ Refused r → l ≡ textAfter p names ends l
+    unfolding textAfter
     after-refused r e = simp e
 
     -- it fits, and is written
-    pub after-fits : textFault p names ends (length l) ≡ Fine → (at : ℕ) (l′ : List ℕ) → Written text 0 l at l′ → l′ ≡ bufferAfter p names ends l
-    unfolding bufferAfter
+    pub after-fits : textFault p names ends (length l) ≡ Fine → (at : ℕ) (l′ : List ℕ) → Written text 0 l at l′ → l′ ≡ textAfter p names ends l
+    unfolding textAfter
     after-fits e at l′ w =
         let fits : length text ≤ length l = text-fits (length l) e .1 in
         let start : 0 + length text ≡ length text = omega arith in

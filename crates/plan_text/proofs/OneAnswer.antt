@@ -6,11 +6,11 @@ use Rattle.refusal.proofs.OneAnswer.{one-answer}
 use Rattle.plan.specs.declared.Plan.{Plan}
 use Prim.Native.Nat.{ℕ}
 use Rattle.plan_text.specs.declared.Formatted.{Formatted}
-use Rattle.plan_text.specs.Answer.{formattedOf, bufferAfter}
+use Rattle.plan_text.specs.Answer.{formattedOf, textAfter}
 
 -- `fmt`, the buffer included
 pub fmt-one : (p : Plan) (names ends buffer : List ℕ) (r r′ : Formatted) (b b′ : List ℕ) → r ≡ formattedOf p names ends (length buffer)
-    → r′ ≡ formattedOf p names ends (length buffer) → b ≡ bufferAfter p names ends buffer → b′ ≡ bufferAfter p names ends buffer → (r ≡ r′) × (b ≡ b′)
+    → r′ ≡ formattedOf p names ends (length buffer) → b ≡ textAfter p names ends buffer → b′ ≡ textAfter p names ends buffer → (r ≡ r′) × (b ≡ b′)
 fmt-one p names ends buffer r r′ b b′ e f g h = (one-answer e f, one-answer g h)
 
 -- `measure`

@@ -21,6 +21,6 @@ formattedOf p names ends room =
     unless (textFault p names ends room) (λ v. record { verdict = v; length = 0 }) (record { verdict = Fine; length = length (textOf p names ends) })
 
 -- the text, and past it what was there; refused, what was there
-unfoldable pub bufferAfter : Plan → List ℕ → List ℕ → List ℕ → List ℕ
-bufferAfter p names ends buffer =
+unfoldable pub textAfter : Plan → List ℕ → List ℕ → List ℕ → List ℕ
+textAfter p names ends buffer =
     unless (textFault p names ends (length buffer)) (λ _. buffer) (textOf p names ends ++ drop (length (textOf p names ends)) buffer)

@@ -7,7 +7,7 @@ use Rattle.plan.specs.declared.SlotRecord.{SlotRecord}
 use Rattle.plan.specs.declared.SlotDefinition.{SlotDefinition}
 use Rattle.plan.specs.declared.SlotDefinition.the-variants.{Variable, Constant}
 use Rattle.plan.specs.declared.Plan.{Plan}
-use Rattle.plan.specs.Plan.{scansOf, slotsOf, selectsOf}
+use Rattle.plan.specs.Plan.{scansOf, slotsOf, slotsSelected}
 use Rattle.text_pieces.specs.Ascii.{ascii}
 use Rattle.text_pieces.specs.Decimal.{decimal}
 use Rattle.text_scan.specs.Line.{slotText, scanLine}
@@ -45,4 +45,4 @@ selectsText slots names ends ks = joined (map (λ (k : Slot). slotText slots nam
 -- the whole text
 unfoldable pub textOf : Plan → List ℕ → List ℕ → List ℕ
 textOf p names ends =
-    constantLines (slotsOf p) 0 ++ scanLines (slotsOf p) names ends (scansOf p) ++ ascii "yield " ++ selectsText (slotsOf p) names ends (selectsOf p)
+    constantLines (slotsOf p) 0 ++ scanLines (slotsOf p) names ends (scansOf p) ++ ascii "yield " ++ selectsText (slotsOf p) names ends (slotsSelected p)

@@ -29,7 +29,7 @@ ghost use Rattle.text_pieces.specs.Written.{Written};
 ghost use Rattle.plan.specs.declared.SlotDefinition.the-variants.{Constant};
 ghost use Rattle.plan.specs.Plan.{Counted};
 ghost use Rattle.plan_text.specs.Text.{constantLine, constantLines, scanLines, separator, selectsText, textOf};
-ghost use Rattle.plan_text.specs.Answer.{formattedOf, bufferAfter};
+ghost use Rattle.plan_text.specs.Answer.{formattedOf, textAfter};
 
 // Whether the text is refused, and its length.
 pub struct Formatted {
@@ -40,7 +40,7 @@ pub struct Formatted {
 // Write the text of a plan to the front of a buffer. On a refusal the buffer stays as it is.
 pub fn fmt(plan: Plan, names: &[u8], ends: &[usize], out: &mut [u8]) -> Formatted
     ensures { λ r. ⌜ r ≡ formattedOf plan (now (names .entry)) (now (ends .entry)) (length (now (out .entry))) ⌝ }
-    ensures { λ r. ⌜ now (out .exit) ≡ bufferAfter plan (now (names .entry)) (now (ends .entry)) (now (out .entry)) ⌝ }
+    ensures { λ r. ⌜ now (out .exit) ≡ textAfter plan (now (names .entry)) (now (ends .entry)) (now (out .entry)) ⌝ }
 {
     let measured = measure(plan, names, ends, out);
     let verdict = measured.verdict;

@@ -19,7 +19,7 @@ use Rattle.query.specs.declared.Query.{Query}
 use Rattle.query.specs.Query.{statementsOf, selectsOf, zeroVar, zeroStatement}
 use Rattle.query_check.specs.Refusals.{constantsIn, constants, statementsFault, selectsFault, unusedFault, capacityFault, variablesFault, queryFault}
 use Rattle.query_check.proofs.Variables.{statements-below}
-use Rattle.plan.specs.Plan.{zeroSlot, zeroScan, variableSlot, scansOf, slotsOf, selectsOf as slotsSelected}
+use Rattle.plan.specs.Plan.{zeroSlot, zeroScan, variableSlot, scansOf, slotsOf, slotsSelected}
 use Rattle.plan_check.specs.Check.{isSet}
 use Rattle.plan_check.specs.Promised.{Fits, Promised}
 use Rattle.planner.specs.Refusals.{boundTwiceFault}

@@ -14,7 +14,7 @@ use Rattle.query.specs.declared.Statement.{Statement}
 use Rattle.query.specs.Query.{isVariable, names, named}
 use Rattle.query_check.specs.Refusals.{constantsIn}
 use Rattle.plan.specs.declared.Slot.{Slot}
-use Rattle.plan_check.specs.Check.{firstWrites, secondWrites, written}
+use Rattle.plan_check.specs.Check.{firstWrites, secondWrites, isWritten}
 use Rattle.planner.specs.Planning.{slotOf, valueSlot, isValueSet, scanFor, scanOf, scansFor}
 use Rattle.planner.proofs.Statements.{named-more}
 
@@ -56,15 +56,15 @@ scan-writes before s c k = go (named before k) refl ∙ sym (named-more before s
     go false e = scan-names before k e s c
 
 -- the scans from one on
-from-written : (before l : List Statement) (n k : ℕ) → (named before k || written (scansFor before l n) k) ≡ named (before ++ l) k
-unfolding written scansFor
+from-written : (before l : List Statement) (n k : ℕ) → (named before k || isWritten (scansFor before l n) k) ≡ named (before ++ l) k
+unfolding isWritten scansFor
 from-written before [] n k = rw append-nil (or-false (named before k))
 from-written before (s ∷ l) n k =
-    let w = written (scansFor (before ++ (s ∷ [])) l (n + constantsIn (s .value))) k in
+    let w = isWritten (scansFor (before ++ (s ∷ [])) l (n + constantsIn (s .value))) k in
     sym (or-assoc (named before k) (firstWrites (scanOf before s n) k || secondWrites (scanOf before s n) k) w)
     ∙ rw (scan-writes before s n k, from-written (before ++ (s ∷ [])) l (n + constantsIn (s .value)) k, append-snoc)
 
 -- all of them, from whatever slot on the constants stand
-pub written-named : (l : List Statement) (n k : ℕ) → written (scansFor [] l n) k ≡ named l k
+pub written-named : (l : List Statement) (n k : ℕ) → isWritten (scansFor [] l n) k ≡ named l k
 unfolding named
 written-named l n k = from-written [] l n k

@@ -24,7 +24,7 @@ ghost use Rattle.capacity.specs.Capacity.{maxStatements, maxSelects};
 ghost use Rattle.planner.specs.Planning.{planOf};
 ghost use Rattle.planner_lent.specs.Lent.{readStatements, readSelects, pushedStatement, pushedSelect, queryOf, planLent};
 
-// Plan the query that is lent: so many variables, the statements that must hold, and the variables to yield.
+// Plan the query that is lent: how many variables it has, the statements that must hold, and the variables to yield.
 pub fn plan(variable_count: u64, where_statements: &[Statement], select: &[Var]) -> Planned
     ensures { λ r. ⌜ r ≡ planLent «variable_count» (now («where_statements» .entry)) (now (select .entry)) ⌝ }
 {
@@ -65,7 +65,7 @@ pub fn plan_query(query: Query) -> Planned
     lend(query.variable_count, items, count, chosen, select_count)
 }
 
-// The first so many of the statements and selects are lent to `plan`. Who calls this lends nothing.
+// The first `count` statements and the first `select_count` selects are lent to `plan`. Who calls this lends nothing.
 fn lend(
     variable_count: u64,
     statements: [Statement; MAX_STATEMENTS],

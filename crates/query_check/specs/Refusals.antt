@@ -38,11 +38,11 @@ statementsFault n ss i = refuseFirst (high n) 14 i ss
 unfoldable pub selectsFault : ℕ → List Var → ℕ → Verdict
 selectsFault n vs i = refuseFirst (λ (v : Var). leb n (v .0)) 14 i vs
 
--- 15 at the lowest of so many variables from v on that is in no statement
+-- 15 at the lowest variable that is in no statement, of those from number v on
 unfoldable pub unusedFault : List Statement → ℕ → ℕ → Verdict
 unusedFault ss left v = refuseFirst (λ (u : ℕ). not (named ss u)) 15 v (span v left)
 
--- 10: over 48 statements; 11: variables + constants over 96; 12: over 32 selects; 13: no selects
+-- more than there is room for: 10 statements; 11 slots, which are variables and constants; 12 selects. 13: no selects
 unfoldable pub capacityFault : ℕ → ℕ → List Statement → ℕ → Verdict
 capacityFault variables statements ss selects =
     orElse (refuseIf (ltb maxStatements statements) 10 0)

@@ -19,7 +19,7 @@ const WINDOWS: usize = 60;
 const LISTED: usize = 500;
 
 // The case that begins at a place. Returns where to read on.
-pub fn put_case<'a>(
+pub(crate) fn put_case<'a>(
     text: &[u8],
     start: usize,
     aevt: &'a [u64],

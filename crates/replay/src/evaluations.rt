@@ -13,7 +13,7 @@ use replay_given::written::put_after;
 const ROOM: usize = 6;
 
 // The case that begins at a place. Returns where to read on.
-pub fn put_case<'a>(
+pub(crate) fn put_case<'a>(
     text: &[u8],
     start: usize,
     aevt: &'a [u64],
@@ -29,7 +29,7 @@ pub fn put_case<'a>(
 }
 
 // The plan that begins at a place: whether evaluation refuses it over these tables. Returns where to read on.
-pub fn put_check<'a>(
+pub(crate) fn put_check<'a>(
     text: &[u8],
     start: usize,
     aevt: &'a [u64],

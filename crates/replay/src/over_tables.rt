@@ -25,7 +25,7 @@ const CHECK: u64 = 2;
 const EVALUATION: u64 = 4;
 
 // The tables that begin at a place, and the cases over them. Returns where to read on.
-pub fn put_case(text: &[u8], start: usize) -> usize {
+pub(crate) fn put_case(text: &[u8], start: usize) -> usize {
     let first = given::read_table(text, start);
     let second = given::read_table(text, first.next);
     let third = given::read_table(text, second.next);

@@ -12,7 +12,7 @@ use replay_given::written;
 use replay_given::written::put;
 use replay_given::written::put_after;
 ghost use mathlib.Core.Path.{_≡_};
-ghost use Rattle.permutation.specs.Swaps.{nextOf};
+ghost use Rattle.permutation.specs.Swaps.{nextSwapOf};
 
 // The case that begins at a place. Returns where to read on.
 pub fn put_case(text: &[u8], start: usize) -> usize {
@@ -90,7 +90,7 @@ fn letters() -> [u8; MAX_ELEMENTS] {
 
 // The step by the lent form: a local is lent to `next`.
 fn next_lent(state: Permutations) -> Step
-    ensures { λ r. ⌜ r ≡ nextOf state ⌝ }
+    ensures { λ r. ⌜ r ≡ nextSwapOf state ⌝ }
 {
     let mut lent = state;
     let next = lent.next();

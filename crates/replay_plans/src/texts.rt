@@ -98,7 +98,7 @@ fn blank() -> [u8; BUFFER_BYTES]
     [126; BUFFER_BYTES]
 }
 
-// The same to a buffer of so many bytes.
+// The same to a buffer of `room` bytes.
 fn show_text_in(plan: Plan, names: &[u8], ends: &[usize], room: u64) {
     let mut buffer = blank();
     if room <= BUFFER_BYTES as u64 {

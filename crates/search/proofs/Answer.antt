@@ -27,7 +27,7 @@ use Rattle.plan.specs.Plan.{zeroScan}
 use Rattle.planner.specs.Planning.{scansFor, planFor, planOf}
 use Rattle.planned.proofs.Passes.{plan-verdict}
 use Rattle.listing.specs.Next.{withScans}
-use Rattle.listing.specs.Listing.{cycleOf, before, combinations}
+use Rattle.listing.specs.Listing.{cycleOf, eachBefore, combinations}
 use Rattle.search.specs.declared.Best.{Best}
 use Rattle.search.specs.Search.{Candidate, orders, arranged, isFine, candidates, leastFrom, foundAs, notFound, firstLeast, searchOf}
 use Rattle.search.specs.Best.{none, kept, bestFrom, arrangedQuery, planWith, chosen, Searchable, Orders}
@@ -50,12 +50,12 @@ least-in c (d ∷ ds) = go (ltb (d .cost) (c .cost)) (least-in d ds) (least-in c
         skip (inr i) = List·Memᴰ·tail (List·Memᴰ·tail i)
 
 -- a plan listed has as many scans
-before-long : (k : ℕ) (xs : List Scan) (ls : List (List Scan)) → ((m : List Scan) → List·Memᴰ m ls → length m ≡ k) → (l : List Scan) → List·Memᴰ l (before xs ls) → length l ≡ suc k
-unfolding before
+before-long : (k : ℕ) (xs : List Scan) (ls : List (List Scan)) → ((m : List Scan) → List·Memᴰ m ls → length m ≡ k) → (l : List Scan) → List·Memᴰ l (eachBefore xs ls) → length l ≡ suc k
+unfolding eachBefore
 before-long k xs [] h l i = absurd (List·Memᴰ·not-nil i)
 before-long k xs (m ∷ ls) h l i = go (List·Memᴰ·append-cases (map (λ x. x ∷ m) xs) i) (before-long k xs ls (λ n j. h n (List·Memᴰ·tail j)) l)
   where
-    go : List·Memᴰ l (map (λ x. x ∷ m) xs) ⊎ List·Memᴰ l (before xs ls) → (List·Memᴰ l (before xs ls) → length l ≡ suc k) → length l ≡ suc k
+    go : List·Memᴰ l (map (λ x. x ∷ m) xs) ⊎ List·Memᴰ l (eachBefore xs ls) → (List·Memᴰ l (eachBefore xs ls) → length l ≡ suc k) → length l ≡ suc k
     go (inl j) r = let f = map-mem (λ x. x ∷ m) xs l j in ap length (f .2) ∙ ap suc (h m (List·Memᴰ·head refl))
     go (inr j) r = r j
 

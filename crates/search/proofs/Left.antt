@@ -7,7 +7,7 @@ use native.Mathlib.Nat.{not-suc-le-zero, le-of-suc-le-suc}
 use lib.ListN.{length}
 use Rattle.permutation.specs.declared.Permutations.{Permutations}
 use Rattle.permutation.specs.declared.Swap.{Swap}
-use Rattle.permutation.specs.Swaps.{nextOf}
+use Rattle.permutation.specs.Swaps.{nextSwapOf}
 use Rattle.orders.specs.Listing.{answerAt, answerIn}
 use Rattle.orders.proofs.Machine.{Follows}
 use Rattle.listing.proofs.Circle.{Run}
@@ -27,11 +27,11 @@ module _ {A : Type 0} (step : A → A) (isNew : A → Bool) where
 
 -- the same for swaps
 abbrev pub swapsLeft : ℕ → Permutations → ℕ
-swapsLeft = stepsLeft (λ s. nextOf s .state) (λ s. nextOf s .next .«is_some»)
+swapsLeft = stepsLeft (λ s. nextSwapOf s .state) (λ s. nextSwapOf s .next .«is_some»)
 
 pub swaps-left : (p : Permutations) (s : List Swap) (k : ℕ) → Follows p s → length s ≤ k → swapsLeft k p ≡ length s
 unfolding stepsLeft answerAt answerIn
 swaps-left p [] zero f h = refl
 swaps-left p [] (suc k) f h = rw (f 0)
 swaps-left p (w ∷ s) zero f h = absurd (not-suc-le-zero h)
-swaps-left p (w ∷ s) (suc k) f h = rw (f 0) (ap suc (swaps-left (nextOf p .state) s k (λ t. f (suc t)) (le-of-suc-le-suc h)))
+swaps-left p (w ∷ s) (suc k) f h = rw (f 0) (ap suc (swaps-left (nextSwapOf p .state) s k (λ t. f (suc t)) (le-of-suc-le-suc h)))

@@ -13,7 +13,7 @@ use Rattle.lists.proofs.Padded.{padded-length, padded-take, padded-other}
 use Rattle.permutation.specs.declared.Permutations.{Permutations}
 use Rattle.permutation.specs.declared.Swap.{Swap}
 use Rattle.permutation.specs.declared.NextSwap.{NextSwap}
-use Rattle.permutation.specs.Swaps.{given, start, elementsFault, freshOf, nextOf}
+use Rattle.permutation.specs.Swaps.{given, start, elementsFault, freshOf, nextSwapOf}
 use Rattle.orders.specs.Lists.{swapped, upTo, factorial}
 use Rattle.orders.specs.Heap.{heap}
 use Rattle.orders.specs.Listing.{answerAt, answerIn}
@@ -31,15 +31,15 @@ use Rattle.search.proofs.Kept.{best-append}
 use Rattle.search.proofs.Left.{swapsLeft, swaps-left}
 
 -- steps that follow swaps: none is left, or the first is answered and then the others
-none-left : (state : Permutations) → Follows state [] → nextOf state .next .«is_some» ≡ false
+none-left : (state : Permutations) → Follows state [] → nextSwapOf state .next .«is_some» ≡ false
 unfolding answerAt answerIn
 none-left state f = rw (f zero)
 
-first-left : (state : Permutations) (s : Swap) (rest : List Swap) → Follows state (s ∷ rest) → nextOf state .next ≡ given s
+first-left : (state : Permutations) (s : Swap) (rest : List Swap) → Follows state (s ∷ rest) → nextSwapOf state .next ≡ given s
 unfolding answerAt answerIn
 first-left state s rest f = f zero
 
-others-left : (state : Permutations) (s : Swap) (rest : List Swap) → Follows state (s ∷ rest) → Follows (nextOf state .state) rest
+others-left : (state : Permutations) (s : Swap) (rest : List Swap) → Follows state (s ∷ rest) → Follows (nextSwapOf state .state) rest
 unfolding answerAt answerIn
 others-left state s rest f t = f (suc t)
 
@@ -131,7 +131,7 @@ module _ (q : Query) (best : Best) (order : List ℕ) (state : Permutations) (r 
   none-more = refl
 
   -- after the last
-  pub round-end : nextOf state .next .«is_some» ≡ false → after ≡ bestFrom none (all (orders count))
+  pub round-end : nextSwapOf state .next .«is_some» ≡ false → after ≡ bestFrom none (all (orders count))
   round-end n = go (r .rest) (r .follows) (r .whole)
     where
       go : (rest : List Swap) → Follows state rest → bestFrom best (all (visits rest o)) ≡ bestFrom none (all (orders count)) → after ≡ bestFrom none (all (orders count))
@@ -141,9 +141,9 @@ module _ (q : Query) (best : Best) (order : List ℕ) (state : Permutations) (r 
       go (s ∷ rest) f w = absurd (false≢true (sym n ∙ ap (λ (x : NextSwap). x .«is_some») (first-left state s rest f)))
 
   -- and before: another follows
-  module _ (n : nextOf state .next .«is_some» ≡ true) where
+  module _ (n : nextSwapOf state .next .«is_some» ≡ true) where
     abbrev w : Swap
-    w = nextOf state .next .swap
+    w = nextSwapOf state .next .swap
 
     -- its swap is within the order
     pub swap-within : (w .0 < count) × (w .1 < count)
@@ -154,16 +154,16 @@ module _ (q : Query) (best : Best) (order : List ℕ) (state : Permutations) (r 
         go (s ∷ rest) f h =
             subst (λ (x : NextSwap). (x .swap .0 < count) × (x .swap .1 < count)) (sym (first-left state s rest f)) (h .0, h .1)
 
-    pub round-again : Round q after (swapped (w .0) (w .1) order) (nextOf state .state)
+    pub round-again : Round q after (swapped (w .0) (w .1) order) (nextSwapOf state .state)
     round-again = go (r .rest) (r .follows) (r .within) (r .fewer) (r .whole)
       where
         go : (rest : List Swap) → Follows state rest → Within rest count → length rest ≤ factorial count
-            → bestFrom best (all (visits rest o)) ≡ bestFrom none (all (orders count)) → Round q after (swapped (w .0) (w .1) order) (nextOf state .state)
+            → bestFrom best (all (visits rest o)) ≡ bestFrom none (all (orders count)) → Round q after (swapped (w .0) (w .1) order) (nextSwapOf state .state)
         go [] f h g e = absurd (false≢true (sym (none-left state f) ∙ n))
         go (s ∷ rest) f h g e =
             let later = others-left state s rest f in
             let y : bestFrom best (all (o ∷ visits rest (swapped (s .0) (s .1) o))) ≡ bestFrom none (all (orders count)) = unfold visits in e in
-            subst (λ (x : NextSwap). Round q after (swapped (x .swap .0) (x .swap .1) order) (nextOf state .state)) (sym (first-left state s rest f)) record {
+            subst (λ (x : NextSwap). Round q after (swapped (x .swap .0) (x .swap .1) order) (nextSwapOf state .state)) (sym (first-left state s rest f)) record {
               rest = rest;
               follows = later;
               within = h .2;
@@ -172,14 +172,14 @@ module _ (q : Query) (best : Best) (order : List ℕ) (state : Permutations) (r 
               whole = rw (swapped-front count order (r .ordered) (s .0) (s .1) (h .0) (h .1)) (sym (less-one (visits rest (swapped (s .0) (s .1) o))) ∙ y);
             }
 
-    pub round-less : ordersLeft q (nextOf state .state) < ordersLeft q state
+    pub round-less : ordersLeft q (nextSwapOf state .state) < ordersLeft q state
     round-less = go (r .rest) (r .follows) (r .fewer)
       where
-        go : (rest : List Swap) → Follows state rest → length rest ≤ factorial count → ordersLeft q (nextOf state .state) < ordersLeft q state
+        go : (rest : List Swap) → Follows state rest → length rest ≤ factorial count → ordersLeft q (nextSwapOf state .state) < ordersLeft q state
         go [] f g = absurd (false≢true (sym (none-left state f) ∙ n))
         go (s ∷ rest) f g =
             let later = others-left state s rest f in
             let fewer : length rest ≤ factorial count = omega (arith, g) in
             let u = swaps-left state (s ∷ rest) (factorial count) f g in
-            let v = swaps-left (nextOf state .state) rest (factorial count) later fewer in
+            let v = swaps-left (nextSwapOf state .state) rest (factorial count) later fewer in
             omega (arith, u, v)

@@ -8,7 +8,7 @@ use mathlib.Core.List.{List, [], _∷_, _++_, map, List·Memᴰ, List·Memᴰ·h
 use mathlib.Core.Bool.{Bool, true, false, cond}
 use Rattle.capacity.specs.Capacity.{maxElements}
 use Rattle.permutation.specs.declared.Permutations.{Permutations}
-use Rattle.permutation.specs.Swaps.{start, nextOf}
+use Rattle.permutation.specs.Swaps.{start, nextSwapOf}
 use Rattle.orders.specs.Lists.{upTo, factorial, OrderOf}
 use Rattle.orders.specs.Listing.{applied, orderAt, listed}
 use Rattle.orders.proofs.Theorem.{complete}
@@ -35,7 +35,7 @@ order-in : (k : ℕ) (s : Permutations) (l : List ℕ) (t : ℕ) → t < k → L
 unfolding listed orderAt
 order-in zero s l t h = absurd (not-suc-le-zero h)
 order-in (suc k) s l zero h = List·Memᴰ·head refl
-order-in (suc k) s l (suc t) h = List·Memᴰ·tail (order-in k (nextOf s .state) (applied (nextOf s .next) l) t (le-of-suc-le-suc h))
+order-in (suc k) s l (suc t) h = List·Memᴰ·tail (order-in k (nextSwapOf s .state) (applied (nextSwapOf s .next) l) t (le-of-suc-le-suc h))
 
 in-order : (k : ℕ) (s : Permutations) (l o : List ℕ) → List·Memᴰ o (listed k s l) → (t : ℕ) × (t < k) × (orderAt t s l ≡ o)
 unfolding listed orderAt
@@ -43,10 +43,10 @@ in-order zero s l o m = absurd (List·Memᴰ·not-nil m)
 in-order (suc k) s l o m = go (List·Memᴰ·cases-cons m) (in-order k s′ l′ o)
   where
     s′ : Permutations
-    s′ = nextOf s .state
+    s′ = nextSwapOf s .state
 
     l′ : List ℕ
-    l′ = applied (nextOf s .next) l
+    l′ = applied (nextSwapOf s .next) l
 
     go : (o ≡ l) ⊎ List·Memᴰ o (listed k s′ l′) → (List·Memᴰ o (listed k s′ l′) → (t : ℕ) × (t < k) × (orderAt t s′ l′ ≡ o)) → (t : ℕ) × (t < suc k) × (orderAt t s l ≡ o)
     go (inl e) r = (0, omega arith, sym e)

@@ -46,7 +46,7 @@ pub record Searchable (q : Query) : Type 0 where
   pub clear : Clear q
   pub few : q .«where_statements» .count ≤ maxSearched
 
--- the order of so many statements that an array has in front, with zeros behind
+-- the order of `count` statements that an array has in front, with zeros behind
 pub record Orders (count : ℕ) (order : List ℕ) : Type 0 where
   pub few : count ≤ maxSearched
   pub is-order : OrderOf (upTo count) (take count order)

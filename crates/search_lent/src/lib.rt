@@ -16,7 +16,8 @@ ghost use Rattle.planner_lent.specs.Lent.{queryOf};
 ghost use Rattle.search.specs.Search.{searchOf};
 ghost use Rattle.search_lent.specs.Lent.{searchLent};
 
-// Find the cheapest plan of the query that is lent: so many variables, the statements that must hold, and the variables to yield.
+// Find the cheapest plan of the query that is lent: how many variables it has, the statements that must
+// hold, and the variables to yield.
 pub fn search(variable_count: u64, where_statements: &[Statement], select: &[Var]) -> Found
     ensures { λ r. ⌜ r ≡ searchLent «variable_count» (now («where_statements» .entry)) (now (select .entry)) ⌝ }
 {
@@ -57,7 +58,7 @@ pub fn search_query(query: Query) -> Found
     lend(query.variable_count, items, count, chosen, select_count)
 }
 
-// The first so many of the statements and selects are lent to `search`. Who calls this lends nothing.
+// The first `count` statements and the first `select_count` selects are lent to `search`. Who calls this lends nothing.
 fn lend(
     variable_count: u64,
     statements: [Statement; MAX_STATEMENTS],

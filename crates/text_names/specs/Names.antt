@@ -8,7 +8,7 @@ use Rattle.refusal.specs.declared.Verdict.{Verdict}
 use Rattle.refusal.specs.Verdict.{refuseIf, orElse, unless}
 use Rattle.plan.specs.declared.Plan.{Plan}
 use Rattle.plan.specs.declared.SlotRecord.{SlotRecord}
-use Rattle.plan.specs.Plan.{isConstant, variableSlot, zeroSlot, slotsOf, selectsOf}
+use Rattle.plan.specs.Plan.{isConstant, variableSlot, zeroSlot, slotsOf, slotsSelected}
 use Rattle.plan_check.specs.Check.{checkOf}
 
 -- where the name of slot k starts
@@ -24,7 +24,7 @@ nameOf names ends k = take (getD ends k 0 - nameStart ends k) (drop (nameStart e
 abbrev pub constantAt : List SlotRecord → ℕ → Bool
 constantAt slots k = isConstant (getD slots k variableSlot .definition)
 
--- an end falls below the one before it, or passes so many name bytes
+-- an end falls below the one before it, or passes the name bytes there are
 abbrev pub wrongEnd : ℕ → ℕ → ℕ → Bool
 wrongEnd bytes before end = ltb end before || ltb bytes end
 
@@ -42,7 +42,7 @@ namesFault p names ends = orElse (checkOf p) (endsFault names ends (p .«slot_co
 
 -- the slot of select i
 abbrev pub selectAt : Plan → ℕ → ℕ
-selectAt p i = getD (selectsOf p) i zeroSlot .0
+selectAt p i = getD (slotsSelected p) i zeroSlot .0
 
 -- a select's name: the plan check, 30; 26: no such select; 29: name asked of a selected constant
 unfoldable pub selectNameFault : Plan → List ℕ → List ℕ → ℕ → Verdict

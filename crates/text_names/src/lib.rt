@@ -89,7 +89,7 @@ fn check_ends(names: &[u8], ends: &[usize], slot_count: usize) -> Verdict
     Verdict::Fine
 }
 
-// Whether an end falls below the one before it, or passes so many name bytes.
+// Whether an end falls below the one before it, or passes the name bytes there are.
 fn is_wrong_end(bytes: usize, before: usize, end: usize) -> bool
     ensures { λ r. ⌜ r ≡ wrongEnd bytes before end ⌝ }
 {
@@ -132,7 +132,7 @@ fn least(a: usize, b: usize) -> usize
     if a < b { a } else { b }
 }
 
-// Whether a slot, of so many, is a constant.
+// Whether a slot is a constant, of the first `slot_count`.
 pub fn is_constant(slots: [SlotRecord; MAX_SLOTS], slot_count: usize, slot: Slot) -> bool
     ensures { λ r. ⌜ r ≡ constantAt (take «slot_count» slots) (slot .0) ⌝ }
 {
@@ -148,7 +148,7 @@ pub fn is_constant(slots: [SlotRecord; MAX_SLOTS], slot_count: usize, slot: Slot
     is_constant_definition(definition)
 }
 
-// The slot of a select, of so many.
+// The slot of a select, of the first `select_count`.
 fn slot_at(select: [Slot; MAX_SELECTS], select_count: usize, index: usize) -> Slot
     ensures { λ r. ⌜ r ≡ getD (take «select_count» select) index zeroSlot ⌝ }
 {

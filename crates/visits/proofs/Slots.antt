@@ -13,7 +13,7 @@ use Rattle.plan.specs.declared.Flow.{Flow}
 use Rattle.plan.specs.declared.Flow.the-variants.{OutOut, InOut, InIn}
 use Rattle.plan.specs.declared.Access.the-variants.{Reads}
 use Rattle.plan.specs.Plan.{inOrder, firstSlot, secondSlot, firstAccess, secondAccess, outOutEavt}
-use Rattle.plan_check.specs.Check.{written as isWritten}
+use Rattle.plan_check.specs.Check.{isWritten}
 use Rattle.visits.specs.Visits.{Tables, tableOf, rowFor, inputs, wanted, visited, standing}
 use Rattle.lists.proofs.Tests.{neither}
 use Rattle.visits.specs.Sound.{stood, Steady, Agree}

@@ -17,19 +17,19 @@ use Rattle.plan.specs.declared.Flow.the-variants.{OutOut, InOut, InIn}
 use Rattle.plan.specs.declared.Access.{Access}
 use Rattle.plan.specs.declared.Access.the-variants.{Reads, Writes}
 use Rattle.plan.specs.Plan.{firstSlot, secondSlot, firstAccess, secondAccess, isConstant, variableSlot, zeroScan, scansOf, slotsOf}
-use Rattle.plan_check.specs.Check.{writesTo, firstWrites, secondWrites, written, isSet}
+use Rattle.plan_check.specs.Check.{writesTo, firstWrites, secondWrites, isWritten, isSet}
 use Rattle.plan_check.specs.Promised.{Rightly, Fits, Promised}
 use Rattle.lists.proofs.Tests.{neither}
 use Rattle.visits.specs.Sound.{Sound}
 
 -- what a scan leaves in its two slots stays there
 pub record Last (s : Scan) (after : List Scan) : Type 0 where
-  pub first-last : written after (firstSlot s .0) ≡ false
-  pub second-last : written after (secondSlot s .0) ≡ false
+  pub first-last : isWritten after (firstSlot s .0) ≡ false
+  pub second-last : isWritten after (secondSlot s .0) ≡ false
 
 -- what some scans and then others write
-written-append : (before after : List Scan) (k : ℕ) → written (before ++ after) k ≡ (written before k || written after k)
-unfolding written
+written-append : (before after : List Scan) (k : ℕ) → isWritten (before ++ after) k ≡ (isWritten before k || isWritten after k)
+unfolding isWritten
 written-append [] after k = refl
 written-append (s ∷ before) after k = rw (written-append before after k) (sym (or-assoc (firstWrites s k || secondWrites s k) _ _))
 
@@ -70,11 +70,11 @@ slots-apart InIn set x y r e = no-writes e
 -- what a scan accesses rightly is set after it
 after-set : (slots : List SlotRecord) (before : List Scan) (s : Scan) (k : ℕ) → (isSet slots before k || (firstWrites s k || secondWrites s k)) ≡ true
     → isSet slots (before ++ (s ∷ [])) k ≡ true
-unfolding isSet written
+unfolding isSet isWritten
 after-set slots before s k e =
     let c = isConstant (getD slots k variableSlot .definition) in
     rw (written-append before (s ∷ []) k, or-false (firstWrites s k || secondWrites s k))
-    (sym (or-assoc c (written before k) (firstWrites s k || secondWrites s k)) ∙ e)
+    (sym (or-assoc c (isWritten before k) (firstWrites s k || secondWrites s k)) ∙ e)
 
 reads-or-writes : (a : Access) (set : Bool) (x : ℕ) → Rightly a set → (set || writesTo a x x) ≡ true
 reads-or-writes Reads set x r = rw r refl
@@ -93,8 +93,8 @@ module _ (slots : List SlotRecord) (before : List Scan) (s : Scan) (f : Fits slo
 
 module _ (slots : List SlotRecord) (ss : List Scan) (fit : (j : ℕ) → j < length ss → Fits slots (take j ss) (getD ss j zeroScan)) where
   -- what is set before scan i is not written from it on
-  set-kept : (left i k : ℕ) → i + left ≡ length ss → isSet slots (take i ss) k ≡ true → written (drop i ss) k ≡ false
-  unfolding written
+  set-kept : (left i k : ℕ) → i + left ≡ length ss → isSet slots (take i ss) k ≡ true → isWritten (drop i ss) k ≡ false
+  unfolding isWritten
   set-kept zero i k n e = rw (drop-of-length-le ss {i = i} (omega arith)) refl
   set-kept (suc left) i k n e =
       let low : i < length ss = omega arith in
@@ -109,7 +109,7 @@ module _ (slots : List SlotRecord) (ss : List Scan) (fit : (j : ℕ) → j < len
       )
       refl
 
-  kept : (i k : ℕ) → i < length ss → isSet slots (take i ss) k ≡ true → written (getD ss i zeroScan ∷ drop (suc i) ss) k ≡ false
+  kept : (i k : ℕ) → i < length ss → isSet slots (take i ss) k ≡ true → isWritten (getD ss i zeroScan ∷ drop (suc i) ss) k ≡ false
   kept i k low e = rw (drop-cons ss i zeroScan low) at (set-kept (length ss - i) i k (omega arith) e)
 
   -- after a scan both its slots are set, so no later scan writes them
@@ -149,5 +149,5 @@ pub promised-last : (p : Plan) → Promised p → (i : ℕ) → i < length (scan
 promised-last p q = slots-last (slotsOf p) (scansOf p) (q .scans-fit)
 
 -- no scan writes a constant's slot
-pub constant-kept : (p : Plan) → Promised p → (k : ℕ) → isSet (slotsOf p) [] k ≡ true → written (scansOf p) k ≡ false
+pub constant-kept : (p : Plan) → Promised p → (k : ℕ) → isSet (slotsOf p) [] k ≡ true → isWritten (scansOf p) k ≡ false
 constant-kept p q k e = set-kept (slotsOf p) (scansOf p) (q .scans-fit) (length (scansOf p)) 0 k (zero-add (length (scansOf p))) e

@@ -15,7 +15,7 @@ use Rattle.plan.specs.declared.Flow.the-variants.{OutOut, InOut, InIn}
 use Rattle.plan.specs.declared.Access.the-variants.{Writes}
 use Rattle.plan.specs.Plan.{inOrder, firstAccess, secondAccess, entityValueFlow, outOutEavt}
 use Rattle.plan_check.specs.Check.{writesTo}
-use Rattle.visits.specs.Visits.{factIn, written}
+use Rattle.visits.specs.Visits.{factIn, withFact}
 use Rattle.lists.proofs.Tests.{neither}
 use Rattle.visits.specs.Sound.{stood}
 
@@ -26,7 +26,7 @@ no-yes e = absurd (false≢true (sym e))
 -- a scan's step in index order
 pub stood-by : (x : Index) (f : Flow) (e v : Slot) (r slots : List ℕ) → outOutEavt f x ≡ false
     → (firstAccess f ≡ Writes → inOrder x e v .0 ≡ inOrder x v e .0 → ⊥)
-    → written (entityValueFlow f x) e v (factIn x r) slots ≡ stood f (inOrder x e v .0) (inOrder x v e .0) (getD r 1 0) (getD r 2 0) slots
+    → withFact (entityValueFlow f x) e v (factIn x r) slots ≡ stood f (inOrder x e v .0) (inOrder x v e .0) (getD r 1 0) (getD r 2 0) slots
 stood-by Aevt OutOut e v r slots o h = refl
 stood-by Avet OutOut e v r slots o h = set-comm slots (e .0) (v .0) (getD r 2 0) (getD r 1 0) (λ q. h refl (sym q))
 stood-by Eavt OutOut e v r slots o h = no-yes o

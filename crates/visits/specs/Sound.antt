@@ -9,7 +9,7 @@ use Rattle.plan.specs.declared.Flow.{Flow}
 use Rattle.plan.specs.declared.Flow.the-variants.{OutOut, InOut, InIn}
 use Rattle.plan.specs.declared.Access.the-variants.{Reads, Writes}
 use Rattle.plan.specs.Plan.{firstSlot, secondSlot, firstAccess, secondAccess, outOutEavt, zeroScan}
-use Rattle.plan_check.specs.Check.{written as isWritten}
+use Rattle.plan_check.specs.Check.{isWritten}
 
 -- the slots where a scan stands, by its slots x and y in index order and the words u and v that lie in the row for them
 abbrev pub stood : Flow → ℕ → ℕ → ℕ → ℕ → List ℕ → List ℕ
@@ -17,7 +17,7 @@ stood OutOut x y u v slots = set (set slots x u) y v
 stood InOut x y u v slots = set slots y v
 stood InIn x y u v slots = slots
 
--- what evaluation leans on of a scan with these after it, in a plan of so many slots
+-- what evaluation leans on of a scan with these after it, in a plan of `count` slots
 pub record Steady (count : ℕ) (s : Scan) (after : List Scan) : Type 0 where
   pub first-in : firstSlot s .0 < count
   pub second-in : secondSlot s .0 < count

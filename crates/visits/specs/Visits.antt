@@ -16,7 +16,7 @@ use Rattle.plan.specs.declared.Flow.{Flow}
 use Rattle.plan.specs.declared.EntityValueFlow.{EntityValueFlow}
 use Rattle.plan.specs.declared.EntityValueFlow.the-variants.{OutOut as BothOut, InOut as EntityIn, OutIn as ValueIn, InIn as BothIn}
 use Rattle.plan.specs.Codes.{flowCode}
-use Rattle.plan.specs.Plan.{entityValueFlow, scansOf, slotsOf, selectsOf}
+use Rattle.plan.specs.Plan.{entityValueFlow, scansOf, slotsOf, slotsSelected}
 
 -- the three tables
 pub record Tables : Type 0 where
@@ -56,15 +56,15 @@ unfoldable pub visited : Tables → Scan → List ℕ → List ℕ
 visited ts s slots = matching (tableOf ts (s .index)) (take (1 + inputs (s .flow)) (rowFor (s .index) (wanted s slots)))
 
 -- a fact's entity and value are written to the slots that the scan writes
-abbrev pub written : EntityValueFlow → Slot → Slot → Fact → List ℕ → List ℕ
-written BothOut e v f slots = set (set slots (e .0) (f .entity)) (v .0) (f .value)
-written EntityIn e v f slots = set slots (v .0) (f .value)
-written ValueIn e v f slots = set slots (e .0) (f .entity)
-written BothIn e v f slots = slots
+abbrev pub withFact : EntityValueFlow → Slot → Slot → Fact → List ℕ → List ℕ
+withFact BothOut e v f slots = set (set slots (e .0) (f .entity)) (v .0) (f .value)
+withFact EntityIn e v f slots = set slots (v .0) (f .value)
+withFact ValueIn e v f slots = set slots (e .0) (f .entity)
+withFact BothIn e v f slots = slots
 
 -- the slots where a scan stands at row k of its table
 unfoldable pub standing : Tables → Scan → List ℕ → ℕ → List ℕ
-standing ts s slots k = written (entityValueFlow (s .flow) (s .index)) (s .entity) (s .value) (factIn (s .index) (row (tableOf ts (s .index)) k)) slots
+standing ts s slots k = withFact (entityValueFlow (s .flow) (s .index)) (s .entity) (s .value) (factIn (s .index) (row (tableOf ts (s .index)) k)) slots
 
 -- the lists of each number, one after the other
 unfoldable pub each : List ℕ → (ℕ → List (List ℕ)) → List (List ℕ)
@@ -84,16 +84,16 @@ slotsAt ts (s ∷ ss) slots [] = slots
 slotsAt ts (s ∷ ss) slots (k ∷ w) = slotsAt ts ss (standing ts s slots k) w
 
 -- before any scan a constant's slot holds its value, and a variable's 0
-abbrev pub valueOf : SlotDefinition → ℕ
-valueOf Variable = 0
-valueOf (Constant v) = v
+abbrev pub startValue : SlotDefinition → ℕ
+startValue Variable = 0
+startValue (Constant v) = v
 
 abbrev pub initialSlots : Plan → List ℕ
-initialSlots p = map (λ (s : SlotRecord). valueOf (s .definition)) (slotsOf p)
+initialSlots p = map (λ (s : SlotRecord). startValue (s .definition)) (slotsOf p)
 
 -- each innermost visit yields one row of selected slots; rows aren't deduplicated
 abbrev pub selected : List Slot → List ℕ → List ℕ
 selected ks slots = map (λ (k : Slot). getD slots (k .0) 0) ks
 
 unfoldable pub rowList : Plan → Tables → List (List ℕ)
-rowList p ts = map (λ w. selected (selectsOf p) (slotsAt ts (scansOf p) (initialSlots p) w)) (visits ts (scansOf p) (initialSlots p))
+rowList p ts = map (λ w. selected (slotsSelected p) (slotsAt ts (scansOf p) (initialSlots p) w)) (visits ts (scansOf p) (initialSlots p))

@@ -6,7 +6,7 @@ use lib.ListN.{length, take, drop}
 use lib.Dec.{ltb}
 use Rattle.tables.specs.Rows.{flat}
 
--- the rows from number k on that a buffer of so many words has room for, of so many words each
+-- the rows from number k on that a buffer of `room` words has room for, of `width` words each
 unfoldable pub window : List (List ℕ) → ℕ → ℕ → ℕ → List (List ℕ)
 window rows width k room = take (room / width) (drop k rows)
 

@@ -5,7 +5,7 @@ use native.Mathlib.Omega.{arith}
 use borrow.Author.Needs.{needs}
 use borrow.Author.Tests.{not-true, not-false}
 use lib.ListN.{length}
-use Rattle.ask_numbers.specs.Words.{before}
+use Rattle.ask_numbers.specs.Words.{inFront}
 use Rattle.ask_numbers.proofs.Saying.{said-end}
 use Rattle.ask_numbers.proofs.Reading.{SoFar, none-yet, so-far-ends, so-far-leaves, so-far-full, so-far-more}
 use Rattle.ask_numbers.proofs.read_words.Statement.{statement}

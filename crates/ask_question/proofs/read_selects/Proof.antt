@@ -7,7 +7,7 @@ use Rattle.capacity.specs.Capacity.{maxSelects}
 use Rattle.lists.specs.Padded.{padded}
 use Rattle.query.specs.Query.{zeroVar}
 use Rattle.lists.specs.Tabled.{tabled}
-use Rattle.ask_question.specs.Asked.{varOf}
+use Rattle.ask_question.specs.Asked.{askedVar}
 use Rattle.lists.proofs.Tabled.{tabled-padded-more, tabled-padded-none}
 use Rattle.ask_question.proofs.Filled.{selects-are}
 use borrow.Author.Needs.{needs}
@@ -15,7 +15,7 @@ use Rattle.ask_question.proofs.read_selects.Statement.{statement}
 use Rattle.ask_question.proofs.read_selects.Tie as tie
 
 abbrev Inv : tie.InvT-loop
-Inv words count items₀ i₀ items i = (i ≤ maxSelects) × (i ≤ count) × (items ≡ padded zeroVar maxSelects (tabled (λ j. varOf (getD words j 0)) i))
+Inv words count items₀ i₀ items i = (i ≤ maxSelects) × (i ≤ count) × (items ≡ padded zeroVar maxSelects (tabled (λ j. askedVar (getD words j 0)) i))
 
 abbrev μ : tie.MeasureT-loop
 μ words count items₀ i₀ items i = maxSelects - i

@@ -6,7 +6,7 @@ use Rattle.capacity.specs.Capacity.{maxStatements}
 use Rattle.lists.specs.Padded.{padded}
 use Rattle.query.specs.Query.{zeroStatement}
 use Rattle.lists.specs.Tabled.{tabled}
-use Rattle.ask_question.specs.Asked.{statementOf}
+use Rattle.ask_question.specs.Asked.{askedStatement}
 use Rattle.lists.proofs.Tabled.{tabled-padded-more, tabled-padded-none}
 use Rattle.ask_question.proofs.Filled.{statements-are}
 use borrow.Author.Needs.{needs}
@@ -14,7 +14,7 @@ use Rattle.ask_question.proofs.read_statements.Statement.{statement}
 use Rattle.ask_question.proofs.read_statements.Tie as tie
 
 abbrev Inv : tie.InvT-loop
-Inv words count items₀ i₀ items i = (i ≤ maxStatements) × (i ≤ count) × (items ≡ padded zeroStatement maxStatements (tabled (statementOf words) i))
+Inv words count items₀ i₀ items i = (i ≤ maxStatements) × (i ≤ count) × (items ≡ padded zeroStatement maxStatements (tabled (askedStatement words) i))
 
 abbrev μ : tie.MeasureT-loop
 μ words count items₀ i₀ items i = maxStatements - i

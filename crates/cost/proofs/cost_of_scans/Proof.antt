@@ -15,7 +15,7 @@ use Rattle.refusal.specs.declared.Verdict.the-variants.{Fine}
 use Rattle.refusal.specs.Verdict.{refuseIf}
 use Rattle.plan.specs.Plan.{zeroScan, scanFlowsFault}
 use Rattle.plan.proofs.Counts.{scan-flows-fine}
-use Rattle.cost.specs.Cost.{penaltyOf, weighed, costOfScans}
+use Rattle.cost.specs.Cost.{penaltyOf, costed, costOfScans}
 use Rattle.cost.proofs.Penalty.{seenOf, seen-none, seen-more}
 use Rattle.cost.proofs.Weight.{room-fits, room-over, iters-some, weightAt, faultAt, weight-end, fault-end, weight-step, fault-step, fault-front}
 use Rattle.cost.proofs.cost_of_scans.Statement.{statement}
@@ -32,7 +32,7 @@ abbrev ν : tie.MeasureT-loop2
 abbrev Inv : tie.InvT-loop
 Inv k scans cost₀ left₀ cost left =
     (left ≤ k) × (weightAt scans k left ≡ cost) × (faultAt scans k left ≡ Fine)
-    × (k ≤ length scans) × (costOfScans scans k ≡ weighed (faultAt scans k 0) (weightAt scans k 0))
+    × (k ≤ length scans) × (costOfScans scans k ≡ costed (faultAt scans k 0) (weightAt scans k 0))
 
 abbrev μ : tie.MeasureT-loop
 μ k scans cost₀ left₀ cost left = left

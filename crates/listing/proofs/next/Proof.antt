@@ -10,12 +10,12 @@ use Rattle.plan.specs.Plan.{countsFault, scanFlowsFault, scansOf}
 use Rattle.plan.proofs.Counts.{flows-agree}
 use Rattle.listing.specs.declared.NextPlan.{NextPlan}
 use Rattle.listing.specs.declared.NextScans.{NextScans}
-use Rattle.listing.specs.Next.{nextScans, isNewScans, stepped, withScans, nextOf, nextOfScans}
+use Rattle.listing.specs.Next.{nextScans, isNewScans, stepped, withScans, nextPlanOf, nextOfScans}
 use Rattle.listing.proofs.next.Statement.{statement}
 use Rattle.listing.proofs.next.Tie as tie
 
 refused : tie.Need-returns
-unfolding nextOf
+unfolding nextPlanOf
 refused c =
     let counts = sym (c .before .before .check-counts .ensures) ∙ c .enum-told .given .1 in
     simp (flows-agree, counts, c .enum-told .given .1)
@@ -36,8 +36,8 @@ carried p n = record {
 }
 
 steps-scans : (p : Plan) → countsFault (p .«scan_count») (p .«slot_count») (p .«select_count») ≡ Fine
-    → carried p (nextOfScans (p .scans) (p .«scan_count»)) ≡ nextOf p
-unfolding nextOf nextOfScans
+    → carried p (nextOfScans (p .scans) (p .«scan_count»)) ≡ nextPlanOf p
+unfolding nextPlanOf nextOfScans
 steps-scans p e = simp (flows-agree, e) (go (scanFlowsFault (p .scans) (p .«scan_count»)))
   where
     go : (v : Verdict) → carried p (unless v (λ r. record { verdict = r; «is_new» = false; scans = p .scans }) (stepped (p .scans) (p .«scan_count»)))

@@ -8,7 +8,7 @@ use lib.Seq.{length-take-le}
 use Rattle.capacity.specs.Capacity.{maxSlots}
 use Rattle.refusal.specs.declared.Verdict.the-variants.{Fine}
 use Rattle.refusal.specs.Verdict.{orElse}
-use Rattle.plan.specs.Plan.{countsFault, slotsOf, selectsOf, Counted}
+use Rattle.plan.specs.Plan.{countsFault, slotsOf, slotsSelected, Counted}
 use Rattle.plan.proofs.Counts.{counts-fine}
 use Rattle.plan_check.specs.Check.{selectsFault, checkOf}
 use Rattle.plan_check.proofs.check_invariants.Statement.{statement}
@@ -30,7 +30,7 @@ counted c = counts-fine _ _ _ (counts c)
 -- past the scans, what is left is the selects' answer
 past : (c : tie.After-check-slot-initialization) →
     let p = c .before .before .before .before .before .before .before .before .args .plan in
-    checkOf p ≡ orElse (c .check-slot-initialization .result) (selectsFault (p .«slot_count») (selectsOf p) 0)
+    checkOf p ≡ orElse (c .check-slot-initialization .result) (selectsFault (p .«slot_count») (slotsSelected p) 0)
 unfolding checkOf
 past c =
     let b = c .before .before .before .before in

@@ -6,7 +6,7 @@ use borrow.Author.Needs.{needs}
 use borrow.Author.Tests.{not-true, not-false}
 use Rattle.permutation.specs.declared.Fresh.{Fresh}
 use Rattle.permutation.specs.declared.Step.{Step}
-use Rattle.permutation.specs.Swaps.{start as swaps-start, nextOf}
+use Rattle.permutation.specs.Swaps.{start as swaps-start, nextSwapOf}
 use Rattle.search.proofs.Round.{Round, ordersLeft, fresh-start, round-start, round-end, swap-within, round-again, round-less}
 use Rattle.search.proofs.weigh_orders.Statement.{statement}
 use Rattle.search.proofs.weigh_orders.Tie as tie
@@ -37,11 +37,11 @@ done c =
     let s = c .before .before .before in
     let w = s .before in
     let l = w .before .loop in
-    let none : nextOf (l .state) .next .«is_some» ≡ false = sym (ap (λ (x : Step). x .next .«is_some») (s .next-value .ensures)) ∙ not-true _ (c .if1 .taken) in
+    let none : nextSwapOf (l .state) .next .«is_some» ≡ false = sym (ap (λ (x : Step). x .next .«is_some») (s .next-value .ensures)) ∙ not-true _ (c .if1 .taken) in
     round-end _ _ _ _ (l .inv) _ (w .weigh-order .ensures) none
 
 -- a swap was given
-some : (c : tie.Else1 Inv μ) → nextOf (c .before .before .before .before .before .loop .state) .next .«is_some» ≡ true
+some : (c : tie.Else1 Inv μ) → nextSwapOf (c .before .before .before .before .before .loop .state) .next .«is_some» ≡ true
 some c = sym (ap (λ (x : Step). x .next .«is_some») (c .before .before .before .next-value .ensures)) ∙ not-false _ (c .if1 .left)
 
 swaps : tie.Need-swap-order-requires Inv μ

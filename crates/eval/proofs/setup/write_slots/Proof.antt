@@ -8,7 +8,7 @@ use Rattle.capacity.specs.Capacity.{maxSlots}
 use Rattle.lists.proofs.Walk.{map-step}
 use Rattle.plan.specs.declared.SlotRecord.{SlotRecord}
 use Rattle.plan.specs.Plan.{variableSlot}
-use Rattle.visits.specs.Visits.{valueOf}
+use Rattle.visits.specs.Visits.{startValue}
 use Rattle.eval.specs.Evaluation.{valuesOf}
 use Rattle.eval.proofs.setup.write_slots.Statement.{statement}
 use Rattle.eval.proofs.setup.write_slots.Tie as tie
@@ -26,7 +26,7 @@ again c =
     let h : length (a .t1) ≡ maxSlots = search needs in (
       omega arith,
       length-set (l .values) _ _ ∙ l .inv .1,
-      map-step (λ (s : SlotRecord). valueOf (s .definition)) (a .t1) (l .values) (l .i) variableSlot (c .value-of .result) (omega arith) (omega arith)
+      map-step (λ (s : SlotRecord). startValue (s .definition)) (a .t1) (l .values) (l .i) variableSlot (c .value-of .result) (omega arith) (omega arith)
           (c .value-of .ensures) (l .inv .2),
     )
 

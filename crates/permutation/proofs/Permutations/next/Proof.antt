@@ -39,7 +39,7 @@ use denote.Triple.Walked.{says, Stays, stay-ref, walkOf, AllGo, goes-ref, Walks,
 use Rattle.permutation.specs.declared.Permutations.{Permutations}
 use Rattle.permutation.specs.declared.Step.{Step}
 use Rattle.permutation.specs.declared.NextSwap.{NextSwap}
-use Rattle.permutation.specs.Swaps.{nextOf}
+use Rattle.permutation.specs.Swaps.{nextSwapOf}
 use Rattle.permutation.proofs.Permutations as T
 use Rattle.permutation.proofs.Permutations.Laws as T′
 use Rattle.permutation.proofs.Step as S
@@ -80,8 +80,8 @@ module _ {M : Type 1} (𝓤 : URA M) (H : Heap 𝓤) (A : Atoms 𝓤) (at-mem : 
   abbrev Value : Contract 𝓤
   Value = tripleOf 𝓤 H A value.signature (value.spec 𝓤 H A at-mem run)
 
-  value-of : (h : Permutations) (r : Step) → ent 𝓤 (ensured 𝓤 H A value.ended (value.clauses 𝓤 H A at-mem run) tt (h, tt) tt r) (fact 𝓤 (r ≡ nextOf h))
-  value-of h r = exE 𝓤 _ (λ ws. snd∗ 𝓤 (sem 𝓤 H A (lasts value.ended tt (h, tt) ws)) (fact 𝓤 (r ≡ nextOf h)))
+  value-of : (h : Permutations) (r : Step) → ent 𝓤 (ensured 𝓤 H A value.ended (value.clauses 𝓤 H A at-mem run) tt (h, tt) tt r) (fact 𝓤 (r ≡ nextSwapOf h))
+  value-of h r = exE 𝓤 _ (λ ws. snd∗ 𝓤 (sem 𝓤 H A (lasts value.ended tt (h, tt) ws)) (fact 𝓤 (r ≡ nextSwapOf h)))
 
 module _ {M : Type 1} (𝓤 : URA M) (H : Heap 𝓤) (A : Atoms 𝓤) (W : Given 𝓤 H A) (at-mem : Memory → SProp 𝓤) (run : Routine → Fun 𝓤) (κ : Lft) (q : Share) (b o : ℕ) (γ : GName) (h : Permutations) where
   abbrev x : RefT Permutations × Unit {0}
@@ -93,7 +93,7 @@ module _ {M : Type 1} (𝓤 : URA M) (H : Heap 𝓤) (A : Atoms 𝓤) (W : Given
   abbrev Post : Val → SProp 𝓤
   Post = walkOf 𝓤 H A next′.ended stayed (next′.clauses 𝓤 H A at-mem run) .post (((κ, tt), (q, tt), tt, x, at), tt)
 
-  exits : (r : Step) → r ≡ nextOf h → Is G.the-row (r .next) (next-val (r .next) ∷ [])
+  exits : (r : Step) → r ≡ nextSwapOf h → Is G.the-row (r .next) (next-val (r .next) ∷ [])
       → ent 𝓤 (sep 𝓤 (A .obs γ (T.the-row .coded .code (r .state))) (sep 𝓤 (A .bor κ (Body (mem T.the-row) b o γ)) (A .lft κ q))) (Post (next-val (r .next)))
   exits r e is =
       qed W (‵ (fobs γ (T.the-row .coded .code (r .state))) ∷ ‵ (fbor κ (Body (mem T.the-row) b o γ)) ∷ ‵ (flft κ q) ∷ []) ∵
@@ -123,7 +123,7 @@ module _ {M : Type 1} (𝓤 : URA M) (H : Heap 𝓤) (A : Atoms 𝓤) (W : Given
         -- [what the call asks; the state's cell; the open borrow; obs; auth; room for _3; …; _2; …; _1; …; room for _0; …]
         calls-at ! fm (Value 𝓤 H A at-mem run) known to-value (and-then ! (load ! (from ! (stop !)) (look ! 7 refl)) (no-more !)) (λ v.
         use1 W (later (some (λ (r : Step). (‵ ftrue ⊛ ‵ (S.the-row .own r (v ∷ []))) ⊛ raw (ensured 𝓤 H A value.ended (value.clauses 𝓤 H A at-mem run) tt (h, tt) tt r)))) (id⊢ 𝓤 _) $ await ! tt $ pick ! (λ r.
-        split ! $ move ! (1 ∷ []) $ use1 W (raw (fact 𝓤 (r ≡ nextOf h))) (value-of 𝓤 H A at-mem run h r) $ heard ! (r ≡ nextOf h) (λ e. split ! $ drop ! $
+        split ! $ move ! (1 ∷ []) $ use1 W (raw (fact 𝓤 (r ≡ nextSwapOf h))) (value-of 𝓤 H A at-mem run h r) $ heard ! (r ≡ nextSwapOf h) (λ e. split ! $ drop ! $
         peeks ! S.the-row (Is S.the-row) (shows 𝓤 H A S.the-row) r (v ∷ []) (λ is′.
         -- [what the step owns; the state's cell; the open borrow; obs; auth; room for _3; …; _2; …; _1; …; room for _0; …]
         land ! (from ! (stop !)) (init ! 5 refl (LL.lawful S.the-type S′.the-laws 𝓤 H A W .typed r _ is′ .0)) $

@@ -6,19 +6,19 @@ use borrow.Author.Needs.{needs}
 use borrow.Author.Tests.{eq-eqb, ne-eqb}
 use lib.ListN.{length, length-set}
 use Rattle.capacity.specs.Capacity.{maxElements}
-use Rattle.permutation.specs.Swaps.{stateOf, nextOf}
+use Rattle.permutation.specs.Swaps.{stateOf, nextSwapOf}
 use Rattle.permutation.proofs.Look.{fine-few, next-gives, next-turns, next-ends}
 use Rattle.permutation.proofs.Permutations.next_value.Statement.{statement}
 use Rattle.permutation.proofs.Permutations.next_value.Tie as tie
 
 abbrev Inv-loop : tie.InvT-loop
-Inv-loop n ks₀ i₀ ks i = (n ≤ maxElements) × (length ks ≡ maxElements) × (nextOf (stateOf n ks₀ i₀) ≡ nextOf (stateOf n ks i))
+Inv-loop n ks₀ i₀ ks i = (n ≤ maxElements) × (length ks ≡ maxElements) × (nextSwapOf (stateOf n ks₀ i₀) ≡ nextSwapOf (stateOf n ks i))
 
 abbrev μ-loop : tie.MeasureT-loop
 μ-loop n ks₀ i₀ ks i = n - i
 
 returns : tie.Need-returns Inv-loop μ-loop
-unfolding nextOf
+unfolding nextSwapOf
 returns c = simp (← (c .before .before .elements-fault .ensures), c .enum-told .given .1)
 
 loop-holds : tie.Need-loop-holds Inv-loop μ-loop

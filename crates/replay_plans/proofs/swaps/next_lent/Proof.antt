@@ -40,7 +40,7 @@ use denote.Triple.Walked.{says, Stays, stay-none, walkOf, goes-none, Walks, ends
 use Rattle.permutation.specs.declared.Permutations.{Permutations}
 use Rattle.permutation.specs.declared.Step.{Step}
 use Rattle.permutation.specs.declared.NextSwap.{NextSwap}
-use Rattle.permutation.specs.Swaps.{nextOf}
+use Rattle.permutation.specs.Swaps.{nextSwapOf}
 use Rattle.permutation.proofs.Permutations as T
 use Rattle.permutation.proofs.Permutations.Laws as T′
 use Rattle.permutation.proofs.Step as S
@@ -80,7 +80,7 @@ made-is r z v g t = step-is (made r z) (subst (Is G.the-row r) (LL.tells G.the-t
 
 -- what `next` says of its result r and of the state z that it leaves
 abbrev Says : Permutations → NextSwap → Permutations → Type 0
-Says h r z = (r ≡ nextOf h .next) × (z ≡ nextOf h .state)
+Says h r z = (r ≡ nextSwapOf h .next) × (z ≡ nextSwapOf h .state)
 
 module _ {M : Type 1} (𝓤 : URA M) (H : Heap 𝓤) (A : Atoms 𝓤) (at-mem : Memory → SProp 𝓤) (run : Routine → Fun 𝓤) where
   abbrev Next : Contract 𝓤
@@ -90,7 +90,7 @@ module _ {M : Type 1} (𝓤 : URA M) (H : Heap 𝓤) (A : Atoms 𝓤) (W : Given
   abbrev Post : Val → SProp 𝓤
   Post = walkOf 𝓤 H A lent.ended stayed (lent.clauses 𝓤 H A at-mem run) .post ((tt, tt, tt, (h, tt), (state-val h ∷ [], tt)), tt)
 
-  exits : (r : Step) → r ≡ nextOf h → Is S.the-row r (step-val r ∷ []) → ent 𝓤 (emp 𝓤) (Post (step-val r))
+  exits : (r : Step) → r ≡ nextSwapOf h → Is S.the-row r (step-val r ∷ []) → ent 𝓤 (emp 𝓤) (Post (step-val r))
   exits r e is′ =
       qed W [] ∵
       suffices ! _ (ends-at 𝓤 H A lent.ended stayed (lent.clauses 𝓤 H A at-mem run) W ((tt, tt, tt, (h, tt), (state-val h ∷ [], tt)), tt) (step-val r) r (tt, tt) (tt, tt)) $ says ! e $
