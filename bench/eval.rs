@@ -1,5 +1,5 @@
-// Times evaluation against 002, which is compiled unchanged with the stand-ins of compare/ (bench/run says how). Both get the same 600
-// facts and the same plans, and must yield the same rows before anything is timed.
+// Times evaluation against 002, which is compiled unchanged with the stand-ins of compare/ (bench/run says how). Both get the same facts
+// and the same plans, and must yield the same rows before anything is timed.
 #[path = "../target/bench/eval.rs"]
 mod eval;
 #[path = "../target/bench/plan.rs"]
@@ -87,6 +87,48 @@ fn queries() -> Vec<(&'static str, Case)> {
     ]
 }
 
+// Facts of one attribute, one to three for each entity: their number, and how many.
+fn short_ranges(facts: usize) -> Vec<(u64, u64, u64)> {
+    let mut random = Random(20260105);
+    let (mut all, mut entity) = (Vec::new(), 0);
+    while all.len() < facts {
+        for value in 0..1 + random.below(3) {
+            all.push((entity, 5, value));
+        }
+        entity += 1;
+    }
+    all.truncate(facts);
+    all
+}
+
+// Times a plan over tables of these facts, and writes the figures. Returns what the check took, round by round.
+fn compare(name: &str, case: &Case, facts: &[(u64, u64, u64)], rounds: usize) -> Vec<f64> {
+    let view = View::new(facts, Tid::min());
+    let t = tables(facts);
+    let plan = rust_plan(case, &[]);
+    let text = numbers(case);
+    let want: Vec<u64> = Evaluator::new(&plan, &view).flat_map(|row| row.iter().map(|v| v.0).collect::<Vec<_>>()).collect();
+    let mut rows = vec![0; want.len()];
+    assert_eq!(check(&text, &t), 0);
+    let count = ours(&text, &t, &mut rows);
+    assert_eq!((count * case.select.len(), &rows), (want.len(), &want));
+    let once = median((0..rounds).map(|_| time(|| theirs(&plan, &view))).collect());
+    let times = (ROUND / once) as u64 + 1;
+    let (mut all, mut old, mut new, mut ratios) = (Vec::new(), Vec::new(), Vec::new(), Vec::new());
+    for _ in 0..rounds {
+        // Evaluation begins with the check, so 002 has the check before it too: both then find the machine as the check leaves it.
+        let checks = time(|| for _ in 0..times { black_box(check(&text, &t)); }) / times as f64;
+        let rust = time(|| for _ in 0..times { black_box(check(&text, &t)); theirs(&plan, &view) }) / times as f64 - checks;
+        let rattle = time(|| for _ in 0..times { black_box(ours(&text, &t, &mut rows)); }) / times as f64 - checks;
+        old.push(rust);
+        all.push(checks);
+        new.push(rattle);
+        ratios.push(rattle / rust);
+    }
+    println!("{}: {} rows, 002 {:.1} us, here {:.1} us, ratio {:.2}", name, count, median(old), median(new), median(ratios));
+    all
+}
+
 fn main() {
     let mut random = Random(20260105);
     let mut facts: Vec<(u64, u64, u64)> = Vec::new();
@@ -96,31 +138,14 @@ fn main() {
             facts.push(fact);
         }
     }
-    let view = View::new(&facts, Tid::min());
-    let t = tables(&facts);
     let mut all = Vec::new();
     for (name, case) in queries() {
-        let plan = rust_plan(&case, &[]);
-        let text = numbers(&case);
-        let want: Vec<u64> = Evaluator::new(&plan, &view).flat_map(|row| row.iter().map(|v| v.0).collect::<Vec<_>>()).collect();
-        let mut rows = vec![0; want.len()];
-        assert_eq!(check(&text, &t), 0);
-        let count = ours(&text, &t, &mut rows);
-        assert_eq!((count * case.select.len(), &rows), (want.len(), &want));
-        let once = median((0..ROUNDS).map(|_| time(|| theirs(&plan, &view))).collect());
-        let times = (ROUND / once) as u64 + 1;
-        let (mut old, mut new, mut ratios) = (Vec::new(), Vec::new(), Vec::new());
-        for _ in 0..ROUNDS {
-            // Evaluation begins with the check, so 002 has the check before it too: both then find the machine as the check leaves it.
-            let checks = time(|| for _ in 0..times { black_box(check(&text, &t)); }) / times as f64;
-            let rust = time(|| for _ in 0..times { black_box(check(&text, &t)); theirs(&plan, &view) }) / times as f64 - checks;
-            let rattle = time(|| for _ in 0..times { black_box(ours(&text, &t, &mut rows)); }) / times as f64 - checks;
-            old.push(rust);
-            all.push(checks);
-            new.push(rattle);
-            ratios.push(rattle / rust);
-        }
-        println!("{}: {} rows, 002 {:.1} us, here {:.1} us, ratio {:.2}", name, count, median(old), median(new), median(ratios));
+        all.extend(compare(name, &case, &facts, ROUNDS));
     }
     println!("reading a plan, and the check of it and of the tables: {:.1} us", median(all));
+    // (x, 5, y) (x, 5, z): for each fact a range of one to three rows.
+    for n in [1_000, 10_000, 100_000] {
+        let case = case(vec![(0, 0, 0, 5, 1), (0, 1, 0, 5, 2)], vec![(false, 0); 3], vec![0, 1, 2]);
+        compare(&format!("short ranges, {} facts", n), &case, &short_ranges(n), if n < 100_000 { ROUNDS } else { 31 });
+    }
 }

@@ -390,9 +390,22 @@ fn over_keys(tables: &Tables, keys: &[Key]) -> Pair {
     (held::case(TABLES, &table_cases::numbers(tables, &cases)), answers)
 }
 
+// Ranges of every length around the steps of 1, 2, 4 and 8 rows, one after the other: of n rows for entity n. The last is the end of aevt
+// and eavt.
+fn lengths() -> Tables {
+    let facts: Vec<(u64, u64, u64)> = (0..17).flat_map(|n| (0..n).map(move |value| (n, 5, value))).collect();
+    database::tables(&facts)
+}
+
 // The tables of stored keys.
 fn keyed() -> Vec<Tables> {
     vec![bench(), large(), [vec![], vec![], vec![]]]
+}
+
+// Of aevt and eavt the range of each entity, of avet that of each value, of all three the whole.
+fn length_keys() -> Vec<Key> {
+    let of = |n: u64| vec![Key(0, 2, vec![5, n, 0]), Key(1, 2, vec![5, n, 0]), Key(2, 1, vec![n, 0, 0]), Key(2, 2, vec![n, 5, 0])];
+    (0..18).flat_map(of).chain((0..3).map(|table| Key(table, 0, vec![0, 0, 0]))).chain((0..2).map(|table| Key(table, 1, vec![5, 0, 0]))).collect()
 }
 
 // Of each table: each row, and a key that is none, by every count of words and one more.
@@ -424,6 +437,15 @@ fn drawn_tables(random: &mut Random, number: &Fn(u64) -> u64) -> Tables {
     let count = random.below(16);
     let fact = |_| (number(random.below(9)), random.below(3), number(random.below(9)));
     let mut facts: Vec<(u64, u64, u64)> = (0..count).map(fact).collect();
+    facts.sort();
+    facts.dedup();
+    database::tables(&facts)
+}
+
+// Facts of few entities and attributes: ranges that take several steps to pass.
+fn drawn_ranges(random: &mut Random) -> Tables {
+    let count = random.below(100);
+    let mut facts: Vec<(u64, u64, u64)> = (0..count).map(|_| (random.below(3), random.below(2), random.below(60))).collect();
     facts.sort();
     facts.dedup();
     database::tables(&facts)
@@ -490,11 +512,19 @@ fn hold(held: &mut Held, random: &mut Random, count: u64) {
             held.count("keys", keys.len());
             held.add(over_keys(&tables, &keys));
         }
+        let ranges = drawn_ranges(random);
+        let keys: Vec<Key> = (0..4).map(|_| drawn_key(random, &ranges, &|n| n)).collect();
+        held.count("keys", keys.len());
+        held.add(over_keys(&ranges, &keys));
         held.add(pair(&Group { tables: tables, windows: windows }));
     }
 }
 
 fn main() {
-    let made = || groups().iter().map(pair).chain(keyed().iter().map(|tables| over_keys(tables, &keys(tables)))).collect();
+    let made = || {
+        let over = |tables: &Tables| over_keys(tables, &keys(tables));
+        let lengths = vec![over_keys(&lengths(), &length_keys())];
+        groups().iter().map(pair).chain(keyed().iter().map(over)).chain(lengths).collect()
+    };
     drive("evaluations", &made, &hold);
 }

@@ -115,7 +115,3 @@ module _ {t ks : List ℕ} where
   pub past-falls : {i : ℕ} → FirstRow t ks i → ascending (rowsOf t) ≡ true → (j k : ℕ) → i ≤ j → j ≤ k → k < count t → begins (row t k) ks ≡ true
       → begins (row t j) ks ≡ true
   past-falls f asc j k g l h e = begins-falls t asc ks j k (f .not-before asc j g (omega arith)) l h e
-
-  -- and where that row does not begin with the key, none does
-  pub past-none : {i : ℕ} → FirstRow t ks i → i < count t → begins (row t i) ks ≡ false → PastRows t ks i i
-  past-none {i = i} f h e = past-found (between-down (past-falls f) (between-start _ _ i (count t) (f .within)) i (omega arith) h e) (omega arith)

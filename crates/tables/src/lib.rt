@@ -135,7 +135,7 @@ fn first_row(table: &[u64], inputs: usize, first: u64, second: u64, third: u64) 
     low
 }
 
-// Past the rows that begin with the key, which stand from `from` on, by halves.
+// Past the rows that begin with the key, which stand from `from` on: in steps of 1, 2, 4 and so on rows, and by halves within the last.
 fn past_rows(
     table: &[u64],
     from: usize,
@@ -149,12 +149,17 @@ fn past_rows(
 {
     let mut low = from;
     let mut high = table.len() / WORDS;
-    if high <= low {
-        return from;
-    }
-    // Often no row begins with the key: then the end of its rows is where they would begin.
-    if !begins_with(table, low, inputs, first, second, third) {
-        return from;
+    let mut step = 1;
+    // A step looks at its last row. Where that row does not begin with the key, the end is within the step, which is then longer than
+    // what is left. Most ranges are short, and an empty one costs one look.
+    while step <= high - low {
+        let last = low + (step - 1);
+        if begins_with(table, last, inputs, first, second, third) {
+            low = last + 1;
+            step = 2 * step;
+        } else {
+            high = last;
+        }
     }
     while low < high {
         let middle = low + (high - low) / 2;
