@@ -82,25 +82,27 @@ fn scan_count() {
 fn largest_datom() {
     let variable = (false, 0);
     let all = case(vec![(0, 0, 0, 5, 1)], vec![variable; 2], vec![0, 1]);
-    let of_entity = case(vec![(0, 1, 0, 5, 1)], vec![(true, 1), variable], vec![0, 1]);
-    let of_value = case(vec![(1, 1, 0, 5, 1)], vec![variable, (true, 2)], vec![0, 1]);
-    let of_both = case(vec![(0, 2, 0, 5, 1)], vec![(true, 1), (true, 2)], vec![0, 1]);
+    let of_entity = case(vec![(0, 1, 0, 5, 1)], vec![(true, 1), variable], vec![1]);
+    let of_value = case(vec![(1, 1, 0, 5, 1)], vec![variable, (true, 2)], vec![0]);
+    // A plan selects a variable: that of a scan before the test.
+    let of_both = case(vec![(0, 1, 0, 7, 2), (0, 2, 0, 5, 1)], vec![(true, 1), (true, 2), variable], vec![2]);
     let asked = vec![
-        (all.clone(), (LARGEST, 5, LARGEST)),
-        (of_entity.clone(), (1, 5, LARGEST)),
-        (of_value.clone(), (LARGEST, 5, 2)),
-        (of_both, (1, 5, 2)),
+        (all.clone(), vec![(LARGEST, 5, LARGEST)], vec![LARGEST, LARGEST]),
+        (of_entity.clone(), vec![(1, 5, LARGEST)], vec![LARGEST]),
+        (of_value.clone(), vec![(LARGEST, 5, 2)], vec![LARGEST]),
+        (of_both, vec![(1, 5, 2), (1, 7, 3)], vec![3]),
     ];
-    for (plan, fact) in asked {
-        assert!(rows_by_002(&rust(&plan), &[fact], Tid::max()).is_empty());
+    for (plan, facts, row) in asked {
+        assert!(rows_by_002(&rust(&plan), &facts, Tid::max()).is_empty());
         for transaction in vec![Tid::min(), Tid(Tid::max().0 - 2)] {
-            assert_eq!(rows_by_002(&rust(&plan), &[fact], transaction), vec![vec![fact.0, fact.2]]);
+            assert_eq!(rows_by_002(&rust(&plan), &facts, transaction), vec![row.clone()]);
         }
-        assert_eq!(evaluations(&plan, &[fact]), format!("fine, rows 1, none follows, buffer {} {} 77 77\n", fact.0, fact.2));
+        let buffer: String = row.iter().chain([77; 4][row.len()..].iter()).map(|w| format!(" {}", w)).collect();
+        assert_eq!(evaluations(&plan, &facts), format!("fine, rows 1, none follows, buffer{}\n", buffer));
     }
     // A fact that is not the largest of its range is found.
-    for (plan, fact) in vec![(all, (1, 5, LARGEST)), (of_entity, (1, 5, 2)), (of_value, (1, 5, 2))] {
-        assert_eq!(rows_by_002(&rust(&plan), &[fact], Tid::max()), vec![vec![fact.0, fact.2]]);
+    for (plan, fact, row) in vec![(all, (1, 5, LARGEST), vec![1, LARGEST]), (of_entity, (1, 5, 2), vec![2]), (of_value, (1, 5, 2), vec![1])] {
+        assert_eq!(rows_by_002(&rust(&plan), &[fact], Tid::max()), vec![row]);
     }
 }
 
@@ -167,7 +169,7 @@ fn planned_by_000() {
     assert_eq!(written(&held::case(QUERIES, &query_cases::numbers(&many))), "refused 11 at 0\n");
 }
 
-// The rest: a cost past 2^64 - 1 wraps (01's nine scans, and one more); a plan of no scans and a selected constant's name panic.
+// The rest: a cost past 2^64 - 1 wraps (01's nine scans, and one more).
 fn the_rest() {
     assert_eq!(Permutations::new(ELEMENTS + 1).next(), Some((0, 1)));
     let order: String = (0..ELEMENTS).map(|i| (b'a' + (i % 26) as u8) as char).collect();
@@ -176,25 +178,43 @@ fn the_rest() {
     let cost: u128 = 20 + 100 * (1050505050505050520 - 20 + 5);
     assert_eq!(rust(&ten).cost(), cost as u64);
     assert_eq!(plans(&ten), "check fine, cost refused 27 at 0, next yes 1000000000\n");
+}
+
+// A selected constant: 001 takes it and only its name panics; 002 yields it, or panics for want of a scan.
+fn selected_constant() {
     let none = case(vec![], vec![(true, 7)], vec![0]);
-    assert!(panic_of(&|| rows_by_002(&rust(&none), &[], Tid::min())).starts_with("index out of bounds"));
-    assert_eq!(evaluations(&none, &[]), "refused 28 at 0, rows 0, none follows, buffer 77 77 77 77\n");
+    rust(&none).check_invariants();
     assert_eq!(panic_of(&|| rust(&none).get_select_name(0).len()), "Constants cannot be selected.");
-    // The text is as compare/printed.rs has it of the Rust, but for the constant.
+    assert!(panic_of(&|| rows_by_002(&rust(&none), &[], Tid::min())).starts_with("index out of bounds"));
+    assert_eq!(plans(&none), "check refused 29 at 0, cost 1, next no \n");
+    let refused = "refused 29 at 0, rows 0, none follows, buffer 77 77 77 77\n";
+    assert_eq!(evaluations(&none, &[]), refused);
     let shown = written(&held::case(TEXTS, &format!("{} 0 1 0 0 1 20 0", plan_cases::numbers(&none))));
-    assert_eq!(shown, "name refused 29 at 0 []\ntext fine, length 19 [let :0 = 7\nyield :0~]\n");
+    assert_eq!(shown, "name refused 29 at 0 []\ntext refused 29 at 0, length 0 [~~~~~~~~~~~~~~~~~~~~]\n");
+    let scanned = case(vec![(1, 1, 0, 5, 1)], vec![(false, 0), (true, 7)], vec![1]);
+    assert_eq!(rows_by_002(&rust(&scanned), &[(3, 5, 7)], Tid::min()), vec![vec![7]]);
+    assert_eq!(evaluations(&scanned, &[(3, 5, 7)]), refused);
+}
+
+// A constant's line is as compare/printed.rs has it of the Rust, but for the constant.
+fn constant_in_decimal() {
+    let plan = case(vec![(1, 1, 0, 5, 1)], vec![(false, 0), (true, 7)], vec![0]);
+    let shown = written(&held::case(TEXTS, &format!("{} 1 120 2 1 1 0 1 48 0", plan_cases::numbers(&plan))));
+    assert_eq!(shown, "name fine [x]\ntext fine, length 47 [let :1 = 7\nfor x:0 in avet (value=:1)\nyield x:0~]\n");
 }
 
 fn main() {
     // Panics are asked for above: nothing of them is to be seen but their text.
     std::panic::set_hook(Box::new(|_| {}));
-    let all: [(&str, fn()); 7] = [
+    let all: [(&str, fn()); 9] = [
         ("the scan-count test", scan_count),
         ("the largest datom", largest_datom),
         ("next of an out-out eavt scan", next_of_out_out_eavt),
         ("a variable at or above the count", variable_too_high),
         ("both slots of a scan on one slot", both_on_one_slot),
         ("what 000 plans", planned_by_000),
+        ("a selected constant", selected_constant),
+        ("a constant's print", constant_in_decimal),
         ("the rest", the_rest),
     ];
     for &(name, difference) in all.iter() {

@@ -89,7 +89,7 @@ fn table_fault(tables: &Tables) -> Verdict {
     None
 }
 
-// Evaluation: the plan check, 28, 1, 2, 3.
+// Evaluation: the plan check, 28, 1, 2, 3. A plan that passes has a scan, so that 28 is never given.
 fn refusal(plan: &Case, tables: &Tables) -> Verdict {
     let empty = if plan.scan_count == 0 { Some((28, 0)) } else { None };
     check(plan).or(empty).or(table_fault(tables))
@@ -204,7 +204,15 @@ fn changed(change: &Fn(&mut Case)) -> Case {
     plan
 }
 
-// The plan check's refusals, each with the number and the place that 01's table gives it.
+// 01's E with other selects. Its slots 0 and 1 are variables, slot 2 is a constant.
+fn selecting(slots: &[u16]) -> Case {
+    changed(&|c| {
+        c.select = slots.to_vec();
+        c.select_count = slots.len() as u64;
+    })
+}
+
+// The plan check's refusals, each with the number and the place that 01's table and 02 give it.
 fn damaged_plans() -> Vec<((u64, u64), Case)> {
     let unselected = |c: &mut Case| {
         c.select.clear();
@@ -215,12 +223,6 @@ fn damaged_plans() -> Vec<((u64, u64), Case)> {
             c.slots.push((false, 0));
         }
         c.slot_count += n;
-    };
-    let selecting = |slots: &[u16]| {
-        let mut plan = e(0, 0);
-        plan.select = slots.to_vec();
-        plan.select_count = slots.len() as u64;
-        plan
     };
     vec![
         // 20 at each count, at the largest number, and before 13
@@ -264,14 +266,29 @@ fn damaged_plans() -> Vec<((u64, u64), Case)> {
         ((25, 3), changed(&|c| unset(c, 2))),
         ((25, 0), changed(&|c| { c.scans[0] = (0, 1, 2, 5, 1) })),
         ((25, 3), changed(&|c| { unset(c, 1); c.select[0] = 4 })),
-        // 26 at the first such select
+        // 26 at the first such select, 29 at the first such select, and 25 before 29
         ((26, 0), selecting(&[3])),
         ((26, 1), selecting(&[1, 3])),
         ((26, 2), selecting(&[1, 0, 65535, 3])),
-        // the plan check comes before 28
+        ((29, 0), selecting(&[2])),
+        ((29, 1), selecting(&[1, 2])),
+        ((29, 2), selecting(&[1, 0, 2, 2])),
+        ((25, 3), changed(&|c| { unset(c, 1); c.select[0] = 2 })),
+        // 26 or 29, as fits the lowest select that has one of them
+        ((29, 0), selecting(&[2, 3])),
+        ((26, 0), selecting(&[3, 2])),
+        ((29, 1), selecting(&[1, 2, 65535])),
+        ((26, 1), selecting(&[1, 65535, 2])),
+        ((29, 1), selecting(&[0, 2, 3, 2])),
+        ((26, 1), selecting(&[0, 3, 2, 3])),
+        // a constant at slot 0
+        ((29, 0), case(vec![(1, 1, 1, 5, 0)], vec![(true, 10), (false, 0)], vec![0])),
+        ((29, 1), case(vec![(1, 1, 1, 5, 0)], vec![(true, 10), (false, 0)], vec![1, 0])),
+        // without a scan every slot is a constant: there is nothing to select, and 28 is not met
         ((26, 0), case(vec![], vec![(true, 7)], vec![1])),
         ((25, 0), case(vec![], vec![(false, 0)], vec![0])),
-        ((28, 0), none()),
+        ((26, 0), case(vec![], vec![], vec![0])),
+        ((29, 0), none()),
     ]
 }
 
@@ -345,12 +362,16 @@ fn groups() -> Vec<Group> {
     for &(expected, ref plan) in &plans {
         assert_eq!(refusal(plan, &bench()), Some(expected));
     }
-    out.push(over(bench(), &plans.iter().map(|p| p.1.clone()).collect::<Vec<_>>(), ROOM));
+    for some in plans.chunks(40) {
+        out.push(over(bench(), &some.iter().map(|p| p.1.clone()).collect::<Vec<_>>(), ROOM));
+    }
     for (expected, tables) in damaged_tables() {
         assert_eq!(refusal(&e(0, 0), &tables), Some(expected));
-        // The plan check and 28 come before the tables are looked at.
+        // The plan check comes before the tables are looked at.
         out.push(over(tables, &[e(0, 0), none(), e(2, 0)], ROOM));
     }
+    // A select's number is not its slot's: select 2 names slot 1, though slot 2 is a constant; and slot 1, though slot 0 is one.
+    out.push(over(bench(), &[selecting(&[1, 1, 1]), case(vec![(1, 1, 1, 5, 0)], vec![(true, 11), (false, 0)], vec![1])], ROOM));
     let mut random = Random(20260103);
     for _ in 0..100 {
         out.push(over(drawn(&mut random), &[e(0, 0)], ROOM));

@@ -30,7 +30,8 @@ pub fn counts_fault(case: &Case) -> Verdict {
     if over { Some((20, 0)) } else { None }
 }
 
-// 01's table, plan check: 20, 13, then scan by scan (21; 22, then 23 or 24 for each slot), then 25, 26.
+// 01's table, plan check: 20, 13, then scan by scan (21; 22, then 23 or 24 for each slot), then 25; then 02's Ticket 9: select by select 26
+// or 29.
 pub fn check(case: &Case) -> Verdict {
     let counts = counts_fault(case);
     if counts.is_some() {
@@ -64,8 +65,10 @@ pub fn check(case: &Case) -> Verdict {
         }
     }
     for (i, slot) in case.select.iter().enumerate() {
-        if *slot as usize >= set.len() {
-            return Some((26, i as u64));
+        match case.slots.get(*slot as usize) {
+            None => return Some((26, i as u64)),
+            Some(&(true, _)) => return Some((29, i as u64)),
+            Some(&(false, _)) => {}
         }
     }
     None
@@ -113,7 +116,7 @@ pub fn out_out(n: usize) -> Case {
     case((0..n as u16).map(|i| (0, 0, 2 * i, 5, 2 * i + 1)).collect(), vec![(false, 0); 2 * n], vec![0])
 }
 
-// A sound plan of a few scans: each slot is read once set and written once.
+// A sound plan of a few scans: each slot is read once set and written once, and variables are selected.
 pub fn sound(random: &mut Random) -> Case {
     sound_of(random, 5)
 }
@@ -142,7 +145,12 @@ fn sound_of(random: &mut Random, most: u64) -> Case {
         };
         scans.push(if index == 1 { (index, flow, second, attribute, first) } else { (index, flow, first, attribute, second) });
     }
-    let select = (0..1 + random.below(3)).map(|_| random.below(slots.len() as u64) as u16).collect();
+    if slots.len() == constants {
+        scans.push((0, 0, constants as u16, 0, constants as u16 + 1));
+        slots.extend([(false, 0); 2].iter());
+    }
+    let variables = (slots.len() - constants) as u64;
+    let select = (0..1 + random.below(3)).map(|_| constants as u16 + random.below(variables) as u16).collect();
     case(scans, slots, select)
 }
 
@@ -161,7 +169,8 @@ pub fn damaged(random: &mut Random) -> Case {
         }
         4 => {
             let i = random.below(c.select.len() as u64) as usize;
-            c.select[i] = [c.slots.len() as u16, 65535][random.below(2) as usize];
+            // past the slots, or a constant's
+            c.select[i] = [c.slots.len() as u16, 65535, 0][random.below(3) as usize];
         }
         5 => {
             c.slots.push((false, 0));

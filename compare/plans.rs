@@ -57,7 +57,7 @@ fn weight(scans: &[Scan]) -> Result<u64, Verdict> {
 fn agrees_with_001(case: &Case, verdict: Verdict) {
     let slip = case.scans.iter().any(|s| in_order(s).iter().any(|k| (*k < case.slots.len()) != (*k < case.scans.len())));
     let asks_what_001_does_not = match verdict {
-        Some((number, _)) => number == 20 || number == 13 || number == 21,
+        Some((number, _)) => number == 20 || number == 13 || number == 21 || number == 29,
         None => false,
     };
     if slip || asks_what_001_does_not {

@@ -11,10 +11,12 @@ mod datom {
     pub struct Value(pub u64);
 }
 
-use datom::Value;
-use plan::{Plan, Slot, SlotDefinition};
+use datom::{Aid, Value};
+use plan::{Flow, Index, Plan, Scan, Slot, SlotDefinition};
 
 fn main() {
-    let constant = Plan { scans: vec![], slots: vec![SlotDefinition::Constant { value: Value(7) }], select: vec![Slot(0)] };
-    assert_eq!(format!("{:?}", constant), "let :0 = Value(7)\nyield :0");
+    let scan = Scan { index: Index::Avet, flow: Flow::InOut, entity: Slot(0), attribute: Aid(5), value: Slot(1) };
+    let slots = vec![SlotDefinition::Variable { name: "x".to_string() }, SlotDefinition::Constant { value: Value(7) }];
+    let plan = Plan { scans: vec![scan], slots: slots, select: vec![Slot(0)] };
+    assert_eq!(format!("{:?}", plan), "let :1 = Value(7)\nfor x:0 in avet (value=:1)\nyield x:0");
 }

@@ -42,7 +42,7 @@ fn check_names(asked: &Asked) -> Verdict {
     None
 }
 
-// 26: no such select; 29: name asked of a selected constant.
+// 26: no such select. A selected constant is refused by the plan check.
 fn check_select_name(asked: &Asked) -> Verdict {
     let fault = check_names(asked);
     if fault.is_some() {
@@ -50,9 +50,6 @@ fn check_select_name(asked: &Asked) -> Verdict {
     }
     if asked.select >= asked.case.select.len() as u64 {
         return Some((26, asked.select));
-    }
-    if asked.case.slots[asked.case.select[asked.select as usize] as usize].0 {
-        return Some((29, asked.select));
     }
     None
 }
@@ -273,9 +270,11 @@ fn cases() -> Vec<Asked> {
         values.extend([power - 1, power].iter());
         power = power.wrapping_mul(10);
     }
-    let slots: Vec<(bool, u64)> = values.iter().map(|v| (true, *v)).collect();
+    let mut slots: Vec<(bool, u64)> = values.iter().map(|v| (true, *v)).collect();
+    let n = slots.len() as u16;
+    slots.extend([(false, 0); 2].iter());
     let none: Vec<&[u8]> = vec![b""; slots.len()];
-    all.push(asked(case(vec![], slots, vec![0, 10, 41]), &none));
+    all.push(asked(case(vec![(0, 0, n, 5, n + 1)], slots, vec![n]), &none));
     // as many slots, scans and selects as fit
     let scans = (0..SLOTS / 2).map(|i| (i % 2, 0, 2 * i as u16, 7, 2 * i as u16 + 1)).collect();
     let full = asked(case(scans, vec![(false, 0); SLOTS], (0..SELECTS as u16).map(|i| 3 * i).collect()), &vec![&b"n"[..]; SLOTS]);
@@ -292,12 +291,12 @@ fn cases() -> Vec<Asked> {
             a.rooms = vec![110];
         }));
     }
-    // the plan check comes before 30, and 30 before 26, 29 and 31
+    // the plan check comes before 30, 29 too, and 30 before 26 and 31
     all.push(changed(&|a| { a.case.scans[1].4 = 3; a.ends.pop(); a.select = 9 }));
     all.push(changed(&|a| { a.case.select_count = SELECTS as u64 + 1; a.ends.clear() }));
     all.push(changed(&|a| { a.ends.pop(); a.select = 9; a.rooms = vec![0, 5] }));
     all.push(changed(&|a| { a.ends.pop(); a.case.select[0] = 2 }));
-    // 26 at the number asked for, 29
+    // 26 at the number asked for; 29 at the select, whichever name is asked for
     for select in vec![0, 1, 2, SELECTS as u64 - 1, SELECTS as u64, u64::max_value()] {
         all.push(changed(&|a| { a.select = select; a.rooms.clear() }));
         all.push(changed(&|a| { a.case.select = vec![2, 1]; a.case.select_count = 2; a.select = select; a.rooms = vec![110] }));

@@ -37,8 +37,9 @@ enum {
 };
 
 /* Why a call is refused. The order in which the numbers are tried is document 01's: planning 10 to 16 ascending; search 10 to 15, 17,
-   18; plan check 20, 13, then scan by scan 21 to 24, then 25, 26; cost and next 20, 21, cost then 27; evaluation the plan check, 28, 1,
-   2, 3; text the plan check, 30, 31; a select's name the plan check, 30, 26, 29; swaps 40. Within a number the lowest place is given. */
+   18; plan check 20, 13, then scan by scan 21 to 24, then 25, then select by select 26 or 29; cost and next 20, 21, cost then 27;
+   evaluation the plan check, 1, 2, 3; text the plan check, 30, 31; a select's name the plan check, 30, 26; swaps 40. Within a number the
+   lowest place is given. */
 enum loader_refusal {
     LOADER_FINE = 0,                  /* not refused */
     LOADER_TABLE_LENGTH = 1,          /* a table's length is no multiple of 3, or lengths differ; place 0 */
@@ -61,8 +62,8 @@ enum loader_refusal {
     LOADER_SLOT_NEVER_SET = 25,       /* a slot is never set; place: the slot */
     LOADER_NO_SUCH_SELECT = 26,       /* a select names no slot, or there is no such select; place: select */
     LOADER_COST_TOO_LARGE = 27,       /* cost over 2^64 - 1; place: the scan at which, working from the last, it first passes */
-    LOADER_NO_SCANS = 28,             /* evaluation of no scans; place 0 */
-    LOADER_CONSTANT_SELECTED = 29,    /* the name is asked of a selected constant; place: select */
+    LOADER_NO_SCANS = 28,             /* evaluation of no scans; never given: such a plan is refused 29 or earlier */
+    LOADER_CONSTANT_SELECTED = 29,    /* a select names a constant; place: select */
     LOADER_NAME_ENDS = 30,            /* name ends fall, pass the name bytes, or aren't one per slot; place 0 */
     LOADER_TEXT_TOO_SHORT = 31,       /* text buffer too short for the whole text; place 0 */
     LOADER_TOO_MANY_ELEMENTS = 40     /* a swap state of over 48 elements, given or asked for; place 0 */
@@ -161,7 +162,7 @@ uint64_t loader_tables(const uint64_t *aevt, size_t aevt_length, const uint64_t 
 
 /* Evaluate a plan: write its rows from number `from` on, one after the other, as many whole ones as fit in `rows_length` words. A row is
    `select_count` words. `first` is how many rows were written, `second` 1 where another follows, else 0. Words past the last row stay.
-   The plan and the tables are checked at each call. Refusals: those of the plan check, 28, 1 to 3. */
+   The plan and the tables are checked at each call. Refusals: those of the plan check, 1 to 3. */
 uint64_t loader_evaluate(const struct loader_plan *plan, const uint64_t *aevt, size_t aevt_length, const uint64_t *avet, size_t avet_length,
                          const uint64_t *eavt, size_t eavt_length, uint64_t from, uint64_t *rows, size_t rows_length, struct loader_answer *answer);
 
@@ -172,7 +173,7 @@ uint64_t loader_text(const struct loader_plan *plan, const uint8_t *names, size_
                      uint8_t *text, size_t text_length, struct loader_answer *answer);
 
 /* The name of select `index`. `first` is its length; it ends where the name of the select's slot does, so that it is the `first` bytes
-   before `names + ends[plan->select[index]]`. Refusals: those of the plan check, 30, 26, 29. */
+   before `names + ends[plan->select[index]]`. Refusals: those of the plan check, 30, 26. */
 uint64_t loader_select_name(const struct loader_plan *plan, const uint8_t *names, size_t names_length, const uint64_t *ends, size_t ends_length,
                             size_t index, struct loader_answer *answer);
 

@@ -2,7 +2,7 @@
 use mathlib.Core.Path.{_≡_, refl, sym, _∙_}
 use mathlib.Core.Bool.{Bool, true, false, false≢true}
 use mathlib.Core.List.{List}
-use Prim.Native.Nat.{ℕ}
+use Prim.Native.Nat.{ℕ, _≤_}
 use native.Mathlib.Omega.{arith}
 use borrow.Author.Tests.{eq-eqb, ne-eqb}
 use lib.ListN.{length}
@@ -12,7 +12,7 @@ use Rattle.capacity.specs.Capacity.{maxScans, maxSelects}
 use Rattle.refusal.specs.declared.Refusal.{Refusal}
 use Rattle.refusal.specs.declared.Verdict.{Verdict}
 use Rattle.refusal.specs.declared.Verdict.the-variants.{Fine, Refused}
-use Rattle.refusal.specs.Verdict.{refused}
+use Rattle.refusal.specs.Verdict.{refused, orElse}
 use Rattle.refusal.proofs.Fine.{refuse-fine, or-fine}
 use Rattle.tables.specs.Rows.{rowsOf, ascending}
 use Rattle.tables.specs.Check.{tablesFault}
@@ -20,7 +20,7 @@ use Rattle.tables.proofs.Promises.{tables-pass}
 use Rattle.plan.specs.declared.Plan.{Plan}
 use Rattle.plan.specs.declared.Index.the-variants.{Aevt, Avet, Eavt}
 use Rattle.plan_check.specs.Check.{checkOf}
-use Rattle.plan_check.proofs.Promises.{promises}
+use Rattle.plan_check.proofs.Promises.{promises, scans-there}
 use Rattle.visits.specs.Visits.{Tables, tablesOf}
 use Rattle.eval.specs.Steps.{Ascend}
 use Rattle.eval.specs.declared.Evaluated.{Evaluated}
@@ -39,6 +39,14 @@ module _ (p : Plan) (ts : Tables) where
   pub tables-answer : checkOf p ≡ Fine → (p .«scan_count» ≡ 0 → ⊥) → evaluationFault p ts ≡ tablesFault (ts .aevt) (ts .avet) (ts .eavt)
   unfolding evaluationFault
   tables-answer e z = simp (e, ne-eqb (p .«scan_count») 0 z)
+
+  -- so 28 is never given: after the plan check only the tables are asked
+  pub no-28 : p .«select_count» ≤ length (p .select) → evaluationFault p ts ≡ orElse (checkOf p) (tablesFault (ts .aevt) (ts .avet) (ts .eavt))
+  no-28 fits = go (checkOf p) refl
+    where
+      go : (v : Verdict) → checkOf p ≡ v → evaluationFault p ts ≡ orElse (checkOf p) (tablesFault (ts .aevt) (ts .avet) (ts .eavt))
+      go Fine e = tables-answer e (λ z. omega (arith, scans-there p fits e)) ∙ sym (rw e refl)
+      go (Refused r) e = plan-refused r e ∙ sym (rw e refl)
 
   module _ (k : ℕ) (buffer : List ℕ) where
     -- a refusal, and the buffer stays

@@ -67,7 +67,7 @@ pub record WrittenOut (p : Plan) (words initial selects slots : List ℕ) : Type
 abbrev pub ShowsRows : Plan → Tables → ℕ → List ℕ → ℕ → Bool → List ℕ → Type 0
 ShowsRows p ts k buffer count more buffer′ = Shows (rowList p ts) (length (slotsSelected p)) k buffer count more buffer′
 
--- the order of refusals: the plan check, 28 where the plan has no scans, the check of the tables
+-- the order of refusals: the plan check, 28 where the plan has no scans (no plan that passes has none: `no-28`), the check of the tables
 unfoldable pub evaluationFault : Plan → Tables → Verdict
 evaluationFault p ts =
     orElse (checkOf p) (orElse (refuseIf (eqb (p .«scan_count») 0) 28 0) (tablesFault (ts .aevt) (ts .avet) (ts .eavt)))

@@ -13,7 +13,7 @@ use Rattle.orders.specs.Listing.{answerAt, listed}
 use Rattle.query.specs.Query.{named}
 use Rattle.query_check.specs.Refusals.{constants, statementsFault, selectsFault, unusedFault, capacityFault, variablesFault, queryFault}
 use Rattle.plan.specs.Plan.{countsFault, outOutFault, flowsFault}
-use Rattle.plan_check.specs.Check.{isWritten, isSet, slotFault, scanFault, scansFault, unsetFault, initializationFault, selectsFault as planSelectsFault, checkOf}
+use Rattle.plan_check.specs.Check.{isWritten, isSet, slotFault, scanFault, scansFault, unsetFault, initializationFault, selectFault, selectsFault as planSelectsFault, checkOf}
 use Rattle.cost.specs.Cost.{indexUsed, keyUsed, weight, weightFault, costOf}
 use Rattle.planner.specs.Refusals.{boundTwiceFault, planFault}
 use Rattle.planner.specs.Planning.{slotsOfConstants, scanOf, scansFor, planFor, planOf}
@@ -30,7 +30,7 @@ use Rattle.eval.specs.Evaluation.{evaluationFault, evaluateOf, bufferAfter}
 use Rattle.examples.specs.Table.{flowsAndIndexes, answer, Line, table, hold}
 
 pub claim : hold table ≡ true
-unfolding table hold answer flowsAndIndexes sameRow planOf planFault queryFault capacityFault variablesFault constants refuseFirst firstFault statementsFault selectsFault unusedFault named boundTwiceFault planFor scansFor scanOf slotsOfConstants padded combinations eachBefore costOf flowsFault countsFault outOutFault weightFault weight indexUsed keyUsed searchOf candidates candidatesOf leastFrom factorial span listed answerAt nextSwapOf elementsFault stopFrom cleared swapped rowList visits visited standing each slotsAt matching keep begins row flat evaluateOf bufferAfter evaluationFault checkOf initializationFault scansFault scanFault slotFault isSet isWritten unsetFault planSelectsFault tablesFault missingFault isAmong ascending earlier window
+unfolding table hold answer flowsAndIndexes sameRow planOf planFault queryFault capacityFault variablesFault constants refuseFirst firstFault statementsFault selectsFault unusedFault named boundTwiceFault planFor scansFor scanOf slotsOfConstants padded combinations eachBefore costOf flowsFault countsFault outOutFault weightFault weight indexUsed keyUsed searchOf candidates candidatesOf leastFrom factorial span listed answerAt nextSwapOf elementsFault stopFrom cleared swapped rowList visits visited standing each slotsAt matching keep begins row flat evaluateOf bufferAfter evaluationFault checkOf initializationFault scansFault scanFault slotFault isSet isWritten unsetFault selectFault planSelectsFault tablesFault missingFault isAmong ascending earlier window
 claim = refl
 
 -- from the claim, each line

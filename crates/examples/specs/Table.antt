@@ -113,9 +113,9 @@ table =
     -- (x,5,y) then (x,7,x): 6 plans; reversed: 16
     line (plans pair) (6 ∷ []) ∷
     line (unplanned turned) (16 ∷ 0 ∷ []) ∷
-    -- a plan of constants and no scans: cost 1, evaluation 28
+    -- a plan of constants and no scans: cost 1; evaluation 29 (02, Ticket 9)
     line (cost constantsOnly) (1 ∷ []) ∷
-    line (unevaluated constantsOnly triples) (28 ∷ 0 ∷ []) ∷
+    line (unevaluated constantsOnly triples) (29 ∷ 0 ∷ []) ∷
     -- nine out-out aevt scans on one attribute: 1050505050505050520; ten: 27 at scan 0
     line (cost (outOuts 9)) (1050505050505050520 ∷ []) ∷
     line (uncosted (outOuts 10)) (27 ∷ 0 ∷ []) ∷ []

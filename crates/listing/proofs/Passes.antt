@@ -99,6 +99,7 @@ module _ (p : Plan) (l : List Scan) (fits : p .«scan_count» ≤ length (p .sca
         scans-fit = rw same-scans (λ j h. same-scans-fit b (slotsOf p) zeroScan j h (q .scans-fit j (rw (same-length b) h)));
         all-set = rw (same-scans, ← (same-set b (slotsOf p))) (q .all-set);
         selects-named = q .selects-named;
+        selects-variable = q .selects-variable;
       }
 
 -- every plan listed

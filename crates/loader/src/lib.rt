@@ -105,7 +105,7 @@ pub extern "C" fn loader_next(plan: &mut [u64; PLAN_WORDS], answer: &mut [u64; A
     0
 }
 
-// The plan check. Refusals 20, 13, 21 to 26.
+// The plan check. Refusals 20, 13, 21 to 26, 29.
 #[no_mangle]
 pub extern "C" fn loader_check(plan: &[u64; PLAN_WORDS], answer: &mut [u64; ANSWER_WORDS]) -> u64
     ensures { λ r. ⌜ r ≡ numberOf (checkOf (planOfWords (now (plan .entry)))) ⌝ }
@@ -145,7 +145,7 @@ pub extern "C" fn loader_tables(
 }
 
 // Evaluate a plan over three tables: its rows from number `from` on, as many whole ones as fit. Answers how many, and 1 where
-// another follows. Refusals: the plan check's, 28, 1 to 3.
+// another follows. Refusals: the plan check's, 1 to 3.
 #[no_mangle]
 pub extern "C" fn loader_evaluate<'a>(
     plan: &[u64; PLAN_WORDS],
@@ -187,7 +187,7 @@ pub extern "C" fn loader_text(
     number_of(verdict)
 }
 
-// How long the name of a select is; it ends where that of the select's slot does. Refusals: the plan check's, 30, 26, 29.
+// How long the name of a select is; it ends where that of the select's slot does. Refusals: the plan check's, 30, 26.
 #[no_mangle]
 pub extern "C" fn loader_select_name<'a>(
     plan: &[u64; PLAN_WORDS],

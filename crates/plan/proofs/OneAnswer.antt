@@ -11,8 +11,9 @@ use Rattle.plan.specs.declared.Plan.{Plan}
 use Rattle.plan.specs.declared.Index.{Index}
 use Rattle.plan.specs.declared.Flow.{Flow}
 use Rattle.plan.specs.declared.EntityValueFlow.{EntityValueFlow}
+use Rattle.plan.specs.declared.SlotDefinition.{SlotDefinition}
 use Rattle.plan.specs.Codes.{indexCode, flowCode, indexOfCode, flowOfCode}
-use Rattle.plan.specs.Plan.{slotsInOrder, entityValueFlow, outOutEavt, emptyPlan, countsFault, scanFlowsFault, flowsFault}
+use Rattle.plan.specs.Plan.{slotsInOrder, entityValueFlow, outOutEavt, isConstant, emptyPlan, countsFault, scanFlowsFault, flowsFault}
 
 pub slots-one : (s : Scan) (r r′ : List Slot) → r ≡ slotsInOrder s → r′ ≡ slotsInOrder s → r ≡ r′
 slots-one s r r′ = one-answer
@@ -22,6 +23,9 @@ flow-one s r r′ = one-answer
 
 pub out-out-one : (s : Scan) (r r′ : Bool) → r ≡ outOutEavt (s .flow) (s .index) → r′ ≡ outOutEavt (s .flow) (s .index) → r ≡ r′
 out-out-one s r r′ = one-answer
+
+pub constant-one : (d : SlotDefinition) (r r′ : Bool) → r ≡ isConstant d → r′ ≡ isConstant d → r ≡ r′
+constant-one d r r′ = one-answer
 
 pub empty-one : (r r′ : Plan) → r ≡ emptyPlan → r′ ≡ emptyPlan → r ≡ r′
 empty-one r r′ = one-answer

@@ -3,7 +3,7 @@ use mathlib.Core.Path.{_≡_}
 use Prim.Native.Nat.{ℕ, _≤_}
 use mathlib.Core.List.{List, [], _∷_}
 use mathlib.Core.Bool.{Bool, true, false, _||_}
-use lib.ListN.{take, replicate}
+use lib.ListN.{take, getD, replicate}
 use lib.Dec.{ltb, eqb}
 use Rattle.refusal.specs.declared.Verdict.{Verdict}
 use Rattle.refusal.specs.Verdict.{refuseIf, orElse, refuseFirst}
@@ -99,6 +99,10 @@ zeroScan = record { index = Aevt; flow = OutOut; entity = zeroSlot; attribute = 
 
 abbrev pub variableSlot : SlotRecord
 variableSlot = record { definition = Variable }
+
+-- slot k of some slots is a constant
+abbrev pub constantAt : List SlotRecord → ℕ → Bool
+constantAt slots k = isConstant (getD slots k variableSlot .definition)
 
 -- two indexes are the same
 abbrev pub sameIndex : Index → Index → Bool

@@ -17,7 +17,7 @@ use refusal::Verdict;
 use refusal::refuse;
 ghost use mathlib.Core.Path.{_≡_};
 ghost use Rattle.plan.specs.Codes.{indexCode, flowCode, indexOfCode, flowOfCode};
-ghost use Rattle.plan.specs.Plan.{slotsInOrder, outOutEavt, entityValueFlow, emptyPlan, countsFault, scanFlowsFault, flowsFault};
+ghost use Rattle.plan.specs.Plan.{slotsInOrder, outOutEavt, isConstant, entityValueFlow, emptyPlan, countsFault, scanFlowsFault, flowsFault};
 
 // The index of a slot.
 //
@@ -268,6 +268,16 @@ pub fn check_counts(scan_count: usize, slot_count: usize, select_count: usize) -
         return refuse(refusal::PLAN_COUNTS, 0);
     }
     Verdict::Fine
+}
+
+// A constant starts set; a variable is set by a scan.
+pub fn is_constant(definition: SlotDefinition) -> bool
+    ensures { λ r. ⌜ r ≡ isConstant definition ⌝ }
+{
+    match definition {
+        SlotDefinition::Variable => false,
+        SlotDefinition::Constant(_) => true,
+    }
 }
 
 // 21: whether a scan is out-out over eavt.

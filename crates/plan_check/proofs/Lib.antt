@@ -1,3 +1,4 @@
 pub mod Tracks
+pub mod Selects
 pub mod Promises
 pub mod OneAnswer

@@ -1,29 +1,29 @@
 -- A plan passes the check exactly if it is as `Promised` says: part by part, that nothing is refused is what the part promises.
 use mathlib.Core.Path.{_≡_, refl}
-use mathlib.Core.Logic.{_↔_}
-use Prim.Native.Nat.{ℕ, suc, _+_, _<_}
+use mathlib.Core.Logic.{_↔_, ⊎-elim}
+use Prim.Native.Nat.{ℕ, suc, _+_, _≤_, _<_}
 use mathlib.Core.List.{List, [], _∷_, _++_, append-nil}
-use mathlib.Core.Bool.{Bool, true, false, _||_}
-use native.Mathlib.Nat.{zero-add, not-suc-le-zero}
+use mathlib.Core.Bool.{Bool, true, false, _||_, false≢true}
+use native.Mathlib.Nat.{zero-add, not-suc-le-zero, eq-or-lt-of-le}
 use native.Mathlib.Omega.{arith}
 use borrow.Author.Tests.{leb-false, lt-leb, le-ltb, eqb-false, ne-eqb, not-false}
 use lib.ListN.{length, getD, take}
-use lib.Seq.{append-snoc}
+use lib.Seq.{append-snoc, length-take-le}
 use lib.Dec.{leb, eqb}
 use Rattle.lists.proofs.Walk.{each}
 use Rattle.refusal.specs.declared.Verdict.the-variants.{Fine}
 use Rattle.refusal.specs.Verdict.{refuseIf}
 use Rattle.refusal.proofs.Fine.{refuse-fine, or-fine}
-use Rattle.refusal.proofs.First.{each-passes, each-number}
+use Rattle.refusal.proofs.First.{first-fine, each-number}
 use Rattle.plan.specs.declared.Slot.{Slot}
 use Rattle.plan.specs.declared.Scan.{Scan}
 use Rattle.plan.specs.declared.SlotRecord.{SlotRecord}
 use Rattle.plan.specs.declared.Plan.{Plan}
 use Rattle.plan.specs.declared.Access.{Access}
 use Rattle.plan.specs.declared.Access.the-variants.{Reads, Writes}
-use Rattle.plan.specs.Plan.{firstSlot, secondSlot, firstAccess, secondAccess, outOutEavt, countsFault, zeroSlot, zeroScan, scansOf, slotsOf, slotsSelected}
+use Rattle.plan.specs.Plan.{firstSlot, secondSlot, firstAccess, secondAccess, outOutEavt, constantAt, countsFault, zeroSlot, zeroScan, scansOf, slotsOf, slotsSelected}
 use Rattle.plan.proofs.Counts.{counts-fine}
-use Rattle.plan_check.specs.Check.{firstWrites, isSet, accessFault, slotFault, scanFault, scansFault, unsetFault, initializationFault, selectsFault, checkOf}
+use Rattle.plan_check.specs.Check.{firstWrites, isWritten, isSet, accessFault, slotFault, scanFault, scansFault, unsetFault, initializationFault, selectFault, selectsFault, checkOf}
 use Rattle.plan_check.specs.Promised.{Rightly, Fits, Promised}
 
 -- 23 and 24: what is read is set, and what is written is not
@@ -90,12 +90,18 @@ module _ (slots : List SlotRecord) where
       let set = each-number _ _ k k left in
       (λ e j h. not-false _ (set .0 e j h), λ f. set .1 (λ j h. rw (f j h) refl))
 
--- 26: each of the selects names one of n slots
-selects-fine : (n : ℕ) (ks : List Slot) (i : ℕ) → selectsFault n ks i ≡ Fine ↔ ((j : ℕ) → j < length ks → getD ks j zeroSlot .0 < n)
-unfolding selectsFault
-selects-fine n ks i =
-    let named = each-passes _ _ zeroSlot i ks in
-    (λ e j h. leb-false _ _ (named .0 e j h), λ f. named .1 (λ j h. lt-leb _ _ (f j h)))
+  -- 26 and 29: each of the selects names a slot of a variable
+  selects-fine : (ks : List Slot) (i : ℕ)
+      → selectsFault slots ks i ≡ Fine
+      ↔ ((j : ℕ) → j < length ks → (getD ks j zeroSlot .0 < length slots) × (constantAt slots (getD ks j zeroSlot .0) ≡ false))
+  unfolding selectsFault selectFault
+  selects-fine ks i =
+      let fine = first-fine (selectFault slots) zeroSlot i ks in (
+        λ e j h.
+            let b = or-fine (refuseIf (leb (length slots) (getD ks j zeroSlot .0)) 26 (i + j)) _ (fine .0 e j h) in
+            (leb-false _ _ (refuse-fine _ _ _ (b .0)), refuse-fine _ _ _ (b .1)),
+        λ f. fine .1 (λ j h. simp (lt-leb _ _ (f j h .0), f j h .1)),
+      )
 
 -- what a caller has of a plan that passes
 pub promises : (p : Plan) → checkOf p ≡ Fine → Promised p
@@ -116,7 +122,8 @@ promises p e =
       some-select = omega (arith, eqb-false);
       scans-fit = scans-fine slots [] scans 0 .0 (f .0);
       all-set = λ k h. rw zero-add at (unset-fine slots scans (length slots) 0 .0 (f .1) k h);
-      selects-named = selects-fine (length slots) (slotsSelected p) 0 .0 (d .1);
+      selects-named = λ i h. selects-fine slots (slotsSelected p) 0 .0 (d .1) i h .0;
+      selects-variable = λ i h. selects-fine slots (slotsSelected p) 0 .0 (d .1) i h .1;
     }
 
 -- and all that it takes to pass
@@ -129,5 +136,18 @@ promised-passes p q =
     (simp (
       scans-fine slots [] scans 0 .1 (q .scans-fit),
       unset-fine slots scans (length slots) 0 .1 (λ k h. rw zero-add (q .all-set k h)),
-      selects-fine (length slots) (slotsSelected p) 0 .1 (q .selects-named),
+      selects-fine slots (slotsSelected p) 0 .1 (λ i h. (q .selects-named i h, q .selects-variable i h)),
     ))
+
+-- a plan that passes has a scan: without one every slot is a constant, and there would be nothing to select
+pub scans-there : (p : Plan) → p .«select_count» ≤ length (p .select) → checkOf p ≡ Fine → 0 < p .«scan_count»
+unfolding isSet isWritten
+scans-there p fits e =
+    let q = promises p e in
+    let some : 0 < length (slotsSelected p) = omega (arith, length-take-le (p .«select_count») (p .select) fits, q .some-select) in
+    ⊎-elim
+    (λ (none : 0 ≡ p .«scan_count»).
+    let set = q .all-set (getD (slotsSelected p) 0 zeroSlot .0) (q .selects-named 0 some) in
+    absurd (false≢true (rw (q .selects-variable 0 some, ← none) at set)))
+    (λ (h : 0 < p .«scan_count»). h)
+    (eq-or-lt-of-le (omega arith))

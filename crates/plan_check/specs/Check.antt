@@ -1,5 +1,5 @@
 -- 01, "Refusal numbers": the plan check gives 20, 13, then scan by scan (21; then for each of its two slots in index order 22, then 23
--- or 24), then 25, 26.
+-- or 24), then 25, then select by select 26 or 29 (02, Ticket 9).
 use Prim.Native.Nat.{ℕ, _+_}
 use mathlib.Core.List.{List, [], _∷_, _++_}
 use mathlib.Core.Bool.{Bool, true, false, not, _||_}
@@ -8,14 +8,14 @@ use lib.Dec.{leb, eqb}
 use Rattle.lists.specs.Span.{span}
 use Rattle.refusal.specs.declared.Verdict.{Verdict}
 use Rattle.refusal.specs.declared.Verdict.the-variants.{Fine}
-use Rattle.refusal.specs.Verdict.{refused, refuseIf, orElse, refuseFirst}
+use Rattle.refusal.specs.Verdict.{refused, refuseIf, orElse, firstFault, refuseFirst}
 use Rattle.plan.specs.declared.Slot.{Slot}
 use Rattle.plan.specs.declared.Scan.{Scan}
 use Rattle.plan.specs.declared.SlotRecord.{SlotRecord}
 use Rattle.plan.specs.declared.Plan.{Plan}
 use Rattle.plan.specs.declared.Access.{Access}
 use Rattle.plan.specs.declared.Access.the-variants.{Reads, Writes}
-use Rattle.plan.specs.Plan.{firstSlot, secondSlot, firstAccess, secondAccess, outOutEavt, isConstant, variableSlot, scansOf, slotsOf, slotsSelected, countsFault}
+use Rattle.plan.specs.Plan.{firstSlot, secondSlot, firstAccess, secondAccess, outOutEavt, constantAt, scansOf, slotsOf, slotsSelected, countsFault}
 
 -- an access to slot number a writes slot number k
 abbrev pub writesTo : Access → ℕ → ℕ → Bool
@@ -35,7 +35,7 @@ isWritten (s ∷ ss) k = firstWrites s k || secondWrites s k || isWritten ss k
 
 -- a slot is set after some scans if it is a constant, or one of them writes it
 unfoldable pub isSet : List SlotRecord → List Scan → ℕ → Bool
-isSet slots before k = isConstant (getD slots k variableSlot .definition) || isWritten before k
+isSet slots before k = constantAt slots k || isWritten before k
 
 -- 23: writes a set slot; 24: reads an unset slot
 abbrev pub accessFault : Access → Bool → ℕ → Verdict
@@ -67,13 +67,17 @@ unsetFault slots scans left k = refuseFirst (λ (j : ℕ). not (isSet slots scan
 unfoldable pub initializationFault : List SlotRecord → List Scan → Verdict
 initializationFault slots scans = orElse (scansFault slots [] scans 0) (unsetFault slots scans (length slots) 0)
 
--- 26: the lowest select from number i on that names none of n slots
-unfoldable pub selectsFault : ℕ → List Slot → ℕ → Verdict
-selectsFault n ks i = refuseFirst (λ (k : Slot). leb n (k .0)) 26 i ks
+-- select i: 26 where it names no slot, 29 where it names a constant
+unfoldable pub selectFault : List SlotRecord → ℕ → Slot → Verdict
+selectFault slots i k = orElse (refuseIf (leb (length slots) (k .0)) 26 i) (refuseIf (constantAt slots (k .0)) 29 i)
+
+-- at the lowest select, from number i on, for which one of the two holds
+unfoldable pub selectsFault : List SlotRecord → List Slot → ℕ → Verdict
+selectsFault slots ks i = firstFault (selectFault slots) i ks
 
 -- the plan check
 unfoldable pub checkOf : Plan → Verdict
 checkOf p =
     orElse (countsFault (p .«scan_count») (p .«slot_count») (p .«select_count»))
     (orElse (refuseIf (eqb (p .«select_count») 0) 13 0)
-    (orElse (initializationFault (slotsOf p) (scansOf p)) (selectsFault (length (slotsOf p)) (slotsSelected p) 0)))
+    (orElse (initializationFault (slotsOf p) (scansOf p)) (selectsFault (slotsOf p) (slotsSelected p) 0)))

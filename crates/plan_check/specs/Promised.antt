@@ -10,7 +10,7 @@ use Rattle.plan.specs.declared.SlotRecord.{SlotRecord}
 use Rattle.plan.specs.declared.Plan.{Plan}
 use Rattle.plan.specs.declared.Access.{Access}
 use Rattle.plan.specs.declared.Access.the-variants.{Reads, Writes}
-use Rattle.plan.specs.Plan.{firstSlot, secondSlot, firstAccess, secondAccess, outOutEavt, zeroSlot, zeroScan, scansOf, slotsOf, slotsSelected}
+use Rattle.plan.specs.Plan.{firstSlot, secondSlot, firstAccess, secondAccess, outOutEavt, constantAt, zeroSlot, zeroScan, scansOf, slotsOf, slotsSelected}
 use Rattle.plan_check.specs.Check.{firstWrites, isSet}
 
 -- what is read is set, and what is written is not
@@ -28,7 +28,7 @@ pub record Fits (slots : List SlotRecord) (before : List Scan) (s : Scan) : Type
   pub second-right : Rightly (secondAccess (s .flow)) (isSet slots before (secondSlot s .0) || firstWrites s (secondSlot s .0))
 
 -- the counts are within the capacities, there is a select, each scan fits after those before it, every slot is set in the end, and each
--- select names a slot
+-- select names a slot of a variable
 pub record Promised (p : Plan) : Type 0 where
   pub few-scans : p .«scan_count» ≤ maxScans
   pub few-slots : p .«slot_count» ≤ maxSlots
@@ -37,3 +37,4 @@ pub record Promised (p : Plan) : Type 0 where
   pub scans-fit : (j : ℕ) → j < length (scansOf p) → Fits (slotsOf p) (take j (scansOf p)) (getD (scansOf p) j zeroScan)
   pub all-set : (k : ℕ) → k < length (slotsOf p) → isSet (slotsOf p) (scansOf p) k ≡ true
   pub selects-named : (i : ℕ) → i < length (slotsSelected p) → getD (slotsSelected p) i zeroSlot .0 < length (slotsOf p)
+  pub selects-variable : (i : ℕ) → i < length (slotsSelected p) → constantAt (slotsOf p) (getD (slotsSelected p) i zeroSlot .0) ≡ false

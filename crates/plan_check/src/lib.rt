@@ -56,7 +56,7 @@ pub fn check_invariants(plan: Plan) -> Verdict
     if let Verdict::Refused(_) = initialization {
         return initialization;
     }
-    check_select_in_bounds(select, select_count, slot_count)
+    check_selects(select, select_count, slots, slot_count)
 }
 
 // Check invariants about slot initialization.
@@ -277,14 +277,15 @@ fn check_all_set(slot_count: usize, initialization: [Initialization; MAX_SLOTS])
     Verdict::Fine
 }
 
-// 26: the selects only reference slots that exist.
-fn check_select_in_bounds(
+// 26 and 29: the selects only reference slots that exist, and that are variables.
+fn check_selects(
     select: [Slot; MAX_SELECTS],
     select_count: usize,
+    slots: [SlotRecord; MAX_SLOTS],
     slot_count: usize,
 ) -> Verdict
-    requires { ⌜ «select_count» ≤ maxSelects ⌝ }
-    ensures { λ r. ⌜ r ≡ selectsFault «slot_count» (take «select_count» select) 0 ⌝ }
+    requires { ⌜ («select_count» ≤ maxSelects) × («slot_count» ≤ maxSlots) ⌝ }
+    ensures { λ r. ⌜ r ≡ selectsFault (take «slot_count» slots) (take «select_count» select) 0 ⌝ }
 {
     let mut i_select = 0;
     while i_select < select_count {
@@ -292,6 +293,12 @@ fn check_select_in_bounds(
         let i_slot = slot.0 as usize;
         if slot_count <= i_slot {
             return refuse(refusal::NO_SUCH_SELECT, i_select);
+        }
+        let record = slots[i_slot];
+        let definition = record.definition;
+        // It is structurally impossible for queries to select a constant: such a plan did not come from the planner.
+        if plan::is_constant(definition) {
+            return refuse(refusal::CONSTANT_SELECTED, i_select);
         }
         i_select += 1;
     }

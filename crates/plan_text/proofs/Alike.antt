@@ -11,10 +11,10 @@ use Rattle.plan.specs.declared.Slot.{Slot}
 use Rattle.plan.specs.declared.Scan.{Scan}
 use Rattle.plan.specs.declared.SlotRecord.{SlotRecord}
 use Rattle.plan.specs.declared.Plan.{Plan}
-use Rattle.plan.specs.Plan.{firstSlot, secondSlot, scansOf, slotsOf, slotsSelected, SamePlan}
+use Rattle.plan.specs.Plan.{firstSlot, secondSlot, constantAt, scansOf, slotsOf, slotsSelected, SamePlan}
 use Rattle.text_pieces.specs.Ascii.{ascii}
 use Rattle.text_pieces.specs.Decimal.{decimal}
-use Rattle.text_names.specs.Names.{nameStart, nameOf, constantAt}
+use Rattle.text_names.specs.Names.{nameStart, nameOf}
 use Rattle.text_scan.specs.Line.{shownName, slotText, scanLine}
 use Rattle.plan_text.specs.Text.{scanLines, joined, selectsText, textOf}
 

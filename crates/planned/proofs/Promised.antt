@@ -26,7 +26,7 @@ use Rattle.planner.specs.Refusals.{boundTwiceFault}
 use Rattle.planner.specs.Planning.{slotOf, scansFor, slotsFor, planFor}
 use Rattle.planner.proofs.Statements.{constants-more, constants-within, length-scans}
 use Rattle.planner.proofs.Accepted.{query-fits}
-use Rattle.planned.proofs.Slots.{slots-length, variable-set, constant-set}
+use Rattle.planned.proofs.Slots.{slots-length, variable-slot, variable-set, constant-set}
 use Rattle.planned.proofs.Places.{take-scans, scan-at, bound-once, selects-below, all-named}
 use Rattle.planned.proofs.ScanFits.{scan-fits}
 
@@ -107,4 +107,5 @@ module _ (q : Query) (statements-sized : length (q .«where_statements» .items)
         scans-fit = rw (scans, slots) (each-fits n ss (a .0) once);
         all-set = rw (scans, slots) (λ k h. each-set n ss (b .1) k (rw slots-length at h));
         selects-named = rw (selects, slots, slots-length) (λ j h. omega (arith, each-selected n vs m (b .0) j h));
+        selects-variable = rw (selects, slots) (λ j h. variable-slot n ss _ (each-selected n vs m (b .0) j h));
       }

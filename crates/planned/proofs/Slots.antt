@@ -2,7 +2,7 @@
 use mathlib.Core.Path.{_≡_, refl}
 use Prim.Native.Nat.{ℕ, zero, suc, _+_, _-_, _≤_, _<_}
 use mathlib.Core.List.{List, [], _∷_, _++_}
-use mathlib.Core.Bool.{true}
+use mathlib.Core.Bool.{true, false}
 use native.Mathlib.Nat.{not-suc-le-zero, le-of-suc-le-suc}
 use native.Mathlib.Omega.{arith}
 use lib.ListN.{length, getD, replicate, length-append, length-replicate, getD-replicate, List·getD-append}
@@ -14,7 +14,7 @@ use Rattle.query.specs.Query.{named}
 use Rattle.query_check.specs.Refusals.{constants}
 use Rattle.plan.specs.declared.Scan.{Scan}
 use Rattle.plan.specs.declared.SlotRecord.{SlotRecord}
-use Rattle.plan.specs.Plan.{isConstant, variableSlot}
+use Rattle.plan.specs.Plan.{constantAt, variableSlot}
 use Rattle.plan_check.specs.Check.{isSet}
 use Rattle.planner.specs.Planning.{constantSlots, slotsOfConstants, scansFor, slotsFor}
 use Rattle.planner.proofs.Statements.{length-slots}
@@ -22,7 +22,7 @@ use Rattle.planned.proofs.Written.{written-named}
 
 -- the slots past the variables are constants
 abbrev Constants : List SlotRecord → Type 0
-Constants l = (k : ℕ) → k < length l → isConstant (getD l k variableSlot .definition) ≡ true
+Constants l = (k : ℕ) → k < length l → constantAt l k ≡ true
 
 one-constant : (v : QueryValue) (l : List SlotRecord) → Constants l → Constants (constantSlots v ++ l)
 one-constant (Const c) l r zero h = refl
@@ -39,13 +39,16 @@ module _ (n : ℕ) (ss : List Statement) where
   pub slots-length : length (slotsFor n ss) ≡ n + constants ss
   slots-length = simp (length-append, length-replicate, length-slots)
 
-  -- a variable's slot
+  -- a variable's slot is no constant
+  pub variable-slot : (k : ℕ) → k < n → constantAt (slotsFor n ss) k ≡ false
+  variable-slot k h =
+      let here : k < length (replicate n variableSlot) = simp length-replicate h in
+      rw (List·getD-append (replicate n variableSlot) (slotsOfConstants ss) variableSlot k here, getD-replicate n k variableSlot variableSlot h) refl
+
+  -- and is set where one of the statements names it
   pub variable-set : (l : List Statement) (m k : ℕ) → k < n → isSet (slotsFor n ss) (scansFor [] l m) k ≡ named l k
   unfolding isSet
-  variable-set l m k h =
-      let here : k < length (replicate n variableSlot) = simp length-replicate h in
-      simp (List·getD-append (replicate n variableSlot) (slotsOfConstants ss) variableSlot k here, getD-replicate n k variableSlot variableSlot h)
-      (written-named l m k)
+  variable-set l m k h = rw (variable-slot k h) (written-named l m k)
 
   -- a constant's slot
   pub constant-set : (scans : List Scan) (k : ℕ) → n ≤ k → k < n + constants ss → isSet (slotsFor n ss) scans k ≡ true

@@ -7,8 +7,7 @@ use lib.Dec.{ltb, leb, eqb}
 use Rattle.refusal.specs.declared.Verdict.{Verdict}
 use Rattle.refusal.specs.Verdict.{refuseIf, orElse, unless}
 use Rattle.plan.specs.declared.Plan.{Plan}
-use Rattle.plan.specs.declared.SlotRecord.{SlotRecord}
-use Rattle.plan.specs.Plan.{isConstant, variableSlot, zeroSlot, slotsOf, slotsSelected}
+use Rattle.plan.specs.Plan.{zeroSlot, slotsSelected}
 use Rattle.plan_check.specs.Check.{checkOf}
 
 -- where the name of slot k starts
@@ -19,10 +18,6 @@ nameStart ends (suc k) = getD ends k 0
 -- the name of slot k, from its start to its end
 unfoldable pub nameOf : List ℕ → List ℕ → ℕ → List ℕ
 nameOf names ends k = take (getD ends k 0 - nameStart ends k) (drop (nameStart ends k) names)
-
--- slot k of some slots is a constant
-abbrev pub constantAt : List SlotRecord → ℕ → Bool
-constantAt slots k = isConstant (getD slots k variableSlot .definition)
 
 -- an end falls below the one before it, or passes the name bytes there are
 abbrev pub wrongEnd : ℕ → ℕ → ℕ → Bool
@@ -44,11 +39,9 @@ namesFault p names ends = orElse (checkOf p) (endsFault names ends (p .«slot_co
 abbrev pub selectAt : Plan → ℕ → ℕ
 selectAt p i = getD (slotsSelected p) i zeroSlot .0
 
--- a select's name: the plan check, 30; 26: no such select; 29: name asked of a selected constant
+-- a select's name: the plan check, which leaves no constant among the selects (`name-of-variable`), 30; 26: no such select
 unfoldable pub selectNameFault : Plan → List ℕ → List ℕ → ℕ → Verdict
-selectNameFault p names ends i =
-    orElse (namesFault p names ends)
-    (orElse (refuseIf (leb (p .«select_count») i) 26 i) (refuseIf (constantAt (slotsOf p) (selectAt p i)) 29 i))
+selectNameFault p names ends i = orElse (namesFault p names ends) (refuseIf (leb (p .«select_count») i) 26 i)
 
 -- that part of the name bytes, empty where it is refused
 unfoldable pub selectNameOf : Plan → List ℕ → List ℕ → ℕ → List ℕ

@@ -11,15 +11,14 @@ use capacity::MAX_SELECTS;
 use capacity::MAX_SLOTS;
 use plan::Plan;
 use plan::Slot;
-use plan::SlotDefinition;
 use plan::SlotRecord;
 use refusal::Verdict;
 use refusal::refuse;
 ghost use mathlib.Core.Path.{_≡_};
 ghost use Prim.Native.Nat.{min};
 ghost use lib.ListN.{take, getD};
-ghost use Rattle.text_names.specs.Names.{nameStart, nameOf, constantAt, wrongEnd, endsFault, namesFault, selectNameFault, selectNameOf};
-ghost use Rattle.plan.specs.Plan.{isConstant, zeroSlot};
+ghost use Rattle.text_names.specs.Names.{nameStart, nameOf, wrongEnd, endsFault, namesFault, selectNameFault, selectNameOf};
+ghost use Rattle.plan.specs.Plan.{constantAt, zeroSlot};
 
 // The first name starts here, each other at the end before it.
 const FIRST_START: usize = 0;
@@ -34,13 +33,6 @@ pub fn check_select_name(plan: Plan, names: &[u8], ends: &[usize], index: usize)
     }
     if plan.select_count <= index {
         return refuse(refusal::NO_SUCH_SELECT, index);
-    }
-    let select = plan.select;
-    let slots = plan.slots;
-    let slot = slot_at(select, plan.select_count, index);
-    // It is structurally impossible for queries to select a constant: such a plan did not come from the planner.
-    if is_constant(slots, plan.slot_count, slot) {
-        return refuse(refusal::CONSTANT_SELECTED, index);
     }
     Verdict::Fine
 }
@@ -145,7 +137,7 @@ pub fn is_constant(slots: [SlotRecord; MAX_SLOTS], slot_count: usize, slot: Slot
     }
     let record = slots[i_slot];
     let definition = record.definition;
-    is_constant_definition(definition)
+    plan::is_constant(definition)
 }
 
 // The slot of a select, of the first `select_count`.
@@ -159,14 +151,4 @@ fn slot_at(select: [Slot; MAX_SELECTS], select_count: usize, index: usize) -> Sl
         return Slot(0);
     }
     select[index]
-}
-
-// A constant starts set; a variable is set by a scan.
-fn is_constant_definition(definition: SlotDefinition) -> bool
-    ensures { λ r. ⌜ r ≡ isConstant definition ⌝ }
-{
-    match definition {
-        SlotDefinition::Variable => false,
-        SlotDefinition::Constant(_) => true,
-    }
 }

@@ -9,10 +9,10 @@ use Rattle.plan.specs.declared.Index.{Index}
 use Rattle.plan.specs.declared.Index.the-variants.{Aevt, Avet, Eavt}
 use Rattle.plan.specs.declared.Flow.{Flow}
 use Rattle.plan.specs.declared.Flow.the-variants.{OutOut, InOut, InIn}
-use Rattle.plan.specs.Plan.{firstSlot, secondSlot}
+use Rattle.plan.specs.Plan.{firstSlot, secondSlot, constantAt}
 use Rattle.text_pieces.specs.Ascii.{ascii}
 use Rattle.text_pieces.specs.Decimal.{decimal}
-use Rattle.text_names.specs.Names.{nameOf, constantAt}
+use Rattle.text_names.specs.Names.{nameOf}
 
 -- a variable's name is printed; a constant's isn't read
 abbrev pub shownName : Bool → List ℕ → List ℕ

@@ -18,7 +18,8 @@ use text_pieces::write_decimal;
 ghost use lib.ListN.{length, take};
 ghost use Rattle.text_pieces.specs.Written.{Written};
 ghost use Rattle.plan.specs.declared.Flow.the-variants.{OutOut, InOut, InIn};
-ghost use Rattle.text_names.specs.Names.{nameOf, constantAt};
+ghost use Rattle.plan.specs.Plan.{constantAt};
+ghost use Rattle.text_names.specs.Names.{nameOf};
 ghost use Rattle.text_scan.specs.Line.{shownName, slotTextIn, indexText, firstLabel, secondLabel, flowLine, scanLine};
 
 // A scan's line.

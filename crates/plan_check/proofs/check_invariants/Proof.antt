@@ -1,11 +1,7 @@
 -- `check_invariants` meets its contract: each `return` is the first refusal of `checkOf`'s chain.
 use mathlib.Core.Path.{_≡_, sym, _∙_}
-use native.Mathlib.Omega.{arith}
 use borrow.Author.Needs.{needs}
 use borrow.Author.Tests.{eq-eqb, ne-eqb}
-use lib.ListN.{length, length-map}
-use lib.Seq.{length-take-le}
-use Rattle.capacity.specs.Capacity.{maxSlots}
 use Rattle.refusal.specs.declared.Verdict.the-variants.{Fine}
 use Rattle.refusal.specs.Verdict.{orElse}
 use Rattle.plan.specs.Plan.{countsFault, slotsOf, slotsSelected, Counted}
@@ -13,10 +9,6 @@ use Rattle.plan.proofs.Counts.{counts-fine}
 use Rattle.plan_check.specs.Check.{selectsFault, checkOf}
 use Rattle.plan_check.proofs.check_invariants.Statement.{statement}
 use Rattle.plan_check.proofs.check_invariants.Tie as tie
-
--- a plan's array of slots is as long as their capacity
-long : (c : tie.Start) → length (c .args .plan .slots) ≡ maxSlots
-long c = simp length-map at (c .good .0 .1 .1 .1 .1 .0 .1 .0 .1)
 
 -- past the first test the counts are fine
 counts : (c : tie.After-enum-told2) →
@@ -30,15 +22,11 @@ counted c = counts-fine _ _ _ (counts c)
 -- past the scans, what is left is the selects' answer
 past : (c : tie.After-check-slot-initialization) →
     let p = c .before .before .before .before .before .before .before .before .args .plan in
-    checkOf p ≡ orElse (c .check-slot-initialization .result) (selectsFault (p .«slot_count») (slotsSelected p) 0)
+    checkOf p ≡ orElse (c .check-slot-initialization .result) (selectsFault (slotsOf p) (slotsSelected p) 0)
 unfolding checkOf
 past c =
     let b = c .before .before .before .before in
-    let p = b .before .before .before .before .args .plan in
-    let h = long (b .before .before .before .before) in
-    let w = counted (b .before) in
-    let n : length (slotsOf p) ≡ p .«slot_count» = length-take-le _ _ (omega arith) in
-    simp (counts (b .before), ne-eqb _ _ (b .if1 .left), ← (c .check-slot-initialization .ensures), n)
+    simp (counts (b .before), ne-eqb _ _ (b .if1 .left), ← (c .check-slot-initialization .ensures))
 
 over : tie.Need-returns
 unfolding checkOf
@@ -62,5 +50,5 @@ check-invariants-spec =
     (λ c. search needs)
     (λ c. c .enum-told3 .given .1 ∙ sym (simp (c .enum-told3 .given .1) at (past (c .before .before))))
     (λ c. search needs)
-    (λ c κs. counted (c .before .before .before .before .before .before .before) .few-selects)
-    (λ c. c .check-select-in-bounds .ensures ∙ sym (simp (c .before .enum-told4 .given .1) at (past (c .before .before .before)))))
+    (λ c κs. let w = counted (c .before .before .before .before .before .before .before) in (w .few-selects, w .few-slots))
+    (λ c. c .check-selects .ensures ∙ sym (simp (c .before .enum-told4 .given .1) at (past (c .before .before .before)))))

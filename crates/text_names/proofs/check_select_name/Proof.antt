@@ -14,15 +14,9 @@ no-such-select : tie.Need-returns-2
 unfolding selectNameFault
 no-such-select c = c .refuse .ensures ∙ simp (sym (c .before .before .before .before .before .check-names .ensures) ∙ c .before .before .before .enum-told2 .given .1, le-leb _ _ (c .before .if1 .taken))
 
-constant : tie.Need-returns-3
+there : tie.Need-returns-3
 unfolding selectNameFault
-constant c =
-    c .refuse2 .ensures ∙ simp (sym (c .before .before .before .before .before .before .before .before .before .before .check-names .ensures) ∙ c .before .before .before .before .before .before .before .before .enum-told2 .given .1, lt-leb _ _ (c .before .before .before .before .before .before .if1 .left), ← (c .before .before .before .slot-at .ensures), sym (c .before .before .is-constant .ensures) ∙ c .before .if2 .taken)
-
-variable : tie.Need-returns-4
-unfolding selectNameFault
-variable c =
-    simp (sym (c .before .before .before .before .before .before .before .before .before .check-names .ensures) ∙ c .before .before .before .before .before .before .before .enum-told2 .given .1, lt-leb _ _ (c .before .before .before .before .before .if1 .left), ← (c .before .before .slot-at .ensures), sym (c .before .is-constant .ensures) ∙ c .if2 .left)
+there c = simp (sym (c .before .before .before .before .check-names .ensures) ∙ c .before .before .enum-told2 .given .1, lt-leb _ _ (c .if1 .left))
 
 pub check-select-name-spec : {M : Type 1} → statement M
 check-select-name-spec =
@@ -34,8 +28,4 @@ check-select-name-spec =
     (λ c. search needs)
     (λ c κs. search needs)
     no-such-select
-    (λ c κs. search needs)
-    (λ c κs. search needs)
-    (λ c κs. search needs)
-    constant
-    variable)
+    there)

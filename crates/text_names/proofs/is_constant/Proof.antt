@@ -20,4 +20,4 @@ is-constant-spec =
     (λ c. search needs)
     (λ c. search needs)
     (λ c κs. search needs)
-    (λ c. let a = c .before .before .before .before .before .args in rw (getD-take (a .slot-count) (a .t1) (a .slot .0) variableSlot (c .before .before .before .if1 .left)) (c .is-constant-definition .ensures)))
+    (λ c. let a = c .before .before .before .before .before .args in rw (getD-take (a .slot-count) (a .t1) (a .slot .0) variableSlot (c .before .before .before .if1 .left)) (c .is-constant .ensures)))
