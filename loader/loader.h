@@ -38,8 +38,8 @@ enum {
 
 /* Why a call is refused. The order in which the numbers are tried is document 01's: planning 10 to 16 ascending; search 10 to 15, 17,
    18; plan check 20, 13, then scan by scan 21 to 24, then 25, then select by select 26 or 29; cost and next 20, 21, cost then 27;
-   evaluation the plan check, 1, 2, 3; text the plan check, 30, 31; a select's name the plan check, 30, 26; swaps 40. Within a number the
-   lowest place is given. */
+   evaluation the plan check, 1, 2, 3; text the plan check, 30, 31; a select's name the plan check, 30, 26; swaps 40; types 10 to 16, 50,
+   then statement by statement 52 of its entity, 51, 52 of its value. Within a number the lowest place is given. */
 enum loader_refusal {
     LOADER_FINE = 0,                  /* not refused */
     LOADER_TABLE_LENGTH = 1,          /* a table's length is no multiple of 3, or lengths differ; place 0 */
@@ -66,7 +66,10 @@ enum loader_refusal {
     LOADER_CONSTANT_SELECTED = 29,    /* a select names a constant; place: select */
     LOADER_NAME_ENDS = 30,            /* name ends fall, pass the name bytes, or aren't one per slot; place 0 */
     LOADER_TEXT_TOO_SHORT = 31,       /* text buffer too short for the whole text; place 0 */
-    LOADER_TOO_MANY_ELEMENTS = 40     /* a swap state of over 48 elements, given or asked for; place 0 */
+    LOADER_TOO_MANY_ELEMENTS = 40,    /* a swap state of over 48 elements, given or asked for; place 0 */
+    LOADER_TYPE_TABLE = 50,           /* a table of types is of odd length or isn't strictly ascending by attribute; place 0 */
+    LOADER_NO_SUCH_ATTRIBUTE = 51,    /* an attribute is not in the table of types; place: statement */
+    LOADER_TYPE_CLASH = 52            /* a variable is used as two types; place: statement */
 };
 
 /* What a call answers, besides what it returns. A call writes all four words. */
