@@ -40,6 +40,7 @@ ghost use Rattle.lists.specs.Padded.{padded};
 ghost use Rattle.query_check.specs.Refusals.{constantsIn};
 ghost use Rattle.query_check.specs.Below.{ValueBelow, Below};
 ghost use Rattle.plan.specs.Plan.{zeroSlot, variableSlot};
+ghost use Rattle.planner.specs.Refusals.{planFault};
 ghost use Rattle.planner.specs.Planning.{slotOf, valueSlot, scanFor, slotsFor, notInitialized, initializedOf, planOf};
 ghost use Rattle.planner.specs.Record.{Plannable, isValueSetIn, bindsTwiceIn, scanIn, statementRecord, constantIn};
 
@@ -94,6 +95,22 @@ pub fn plan(query: Query) -> Planned
         select_count,
     };
     Planned { verdict, plan }
+}
+
+// Check that the query can be planned in the given order: 10 to 16. No plan is made.
+pub fn check_plannable(query: Query) -> Verdict
+    ensures { λ r. ⌜ r ≡ planFault query ⌝ }
+{
+    let checked = query_check::check_query(query);
+    if let Verdict::Refused(_) = checked {
+        return checked;
+    }
+    let statements = query.where_statements;
+    let items = statements.items;
+    let count = statements.count;
+    let variables = query.variable_count as usize;
+    let initialized = initialize_scans(variables, items, count);
+    initialized.verdict
 }
 
 // Generate the initial scans to implement the query: a scan for every statement.
