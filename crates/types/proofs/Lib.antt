@@ -2,6 +2,7 @@ pub mod Table
 pub mod Given
 pub mod Tracks
 pub mod Begun
+pub mod Variables
 pub mod Answer
 pub mod OneAnswer
 pub mod Fitting

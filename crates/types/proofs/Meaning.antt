@@ -2,11 +2,10 @@
 -- statement's.
 use mathlib.Core.Path.{_≡_, refl, sym, _∙_}
 use mathlib.Core.Logic.{⊎-elim}
-use Prim.Native.Nat.{ℕ, zero, suc, _+_, _≤_, _<_}
+use Prim.Native.Nat.{ℕ, _≤_, _<_}
 use mathlib.Core.List.{List, []}
 use mathlib.Core.Bool.{Bool, true, false, not}
 use native.Mathlib.Numerals.{add-one}
-use native.Mathlib.Nat.{eq-or-lt-of-le}
 use native.Mathlib.Omega.{arith}
 use borrow.Author.Tests.{not-false}
 use lib.ListN.{length, getD, take, replicate, List·getD-eq-default}
@@ -21,14 +20,13 @@ use Rattle.lists.specs.Tabled.{tabled}
 use Rattle.lists.proofs.Tabled.{tabled-length, tabled-at}
 use Rattle.lists.proofs.Padded.{padded-length}
 use Rattle.tables.proofs.Order.{lt-or-ge}
-use Rattle.query.specs.declared.Statement.{Statement}
 use Rattle.query.specs.declared.Query.{Query}
-use Rattle.query.specs.Query.{named, statementsOf, selectsOf, zeroStatement}
-use Rattle.query_check.specs.Refusals as check
+use Rattle.query.specs.Query.{statementsOf, zeroStatement}
 use Rattle.planner.specs.Refusals.{planFault}
 use Rattle.types.specs.Types.{isTable, typeGiven, statementsFault, typesFault, notInferred, inferredOf}
 use Rattle.types.specs.Meaning.{Fits, CanBeTyped, typesIn, WellTyped, Missing, Clash, TypesDemanded}
-use Rattle.types.proofs.Answer.{zeros-past, plannable, given-past}
+use Rattle.types.proofs.Variables.{plannable, given-past, variables-named}
+use Rattle.types.proofs.Answer.{zeros-past}
 use Rattle.types.proofs.Fitting.{fits-same, fits-given, fits-fine, fine-fits}
 use Rattle.types.proofs.Stopped.{numbers-differ, Stopped, stopped, missing-there, clash-unfit}
 use Rattle.types.proofs.Numbers.{AtMost, plan-most}
@@ -48,27 +46,6 @@ beyond : (a : Verdict) (t : Bool) (b : Verdict) (n i : ℕ) → AtMost 16 a → 
 beyond Fine true b n i m h e = numbers-differ _ _ e (λ q. omega arith)
 beyond Fine false b n i m h e = e
 beyond (Refused r) t b n i m h e = numbers-differ _ _ e (λ q. omega arith)
-
--- every variable is named: none is refused 15
-all-named : (ss : List Statement) (left v : ℕ) → check.unusedFault ss left v ≡ Fine → (w : ℕ) → v ≤ w → w < v + left → named ss w ≡ true
-unfolding check.unusedFault
-all-named ss zero v e w l h = absurd (omega arith)
-all-named ss (suc left) v e w l h =
-    let f = or-fine (refuseIf (not (named ss v)) 15 v) _ e in
-    ⊎-elim (λ (s : v ≡ w). rw (← s) (not-false _ (refuse-fine _ _ _ (f .0))))
-    (λ (s : v < w). all-named ss left (v + 1) (f .1) w (omega arith) (omega arith))
-    (eq-or-lt-of-le l)
-
-variables-named : (q : Query) → planFault q ≡ Fine → (v : ℕ) → v < q .«variable_count» → named (statementsOf q) v ≡ true
-unfolding planFault check.queryFault check.variablesFault
-variables-named q e v h =
-    let n = q .«variable_count» in
-    let m = q .«where_statements» .count in
-    let ss = statementsOf q in
-    let f = or-fine (check.queryFault q) _ e .0 in
-    let g = or-fine (check.capacityFault n m ss (q .select .count)) _ f .1 in
-    let k = or-fine (check.selectsFault n (selectsOf q) m) _ (or-fine (check.statementsFault n ss 0) _ g .1) .1 in
-    all-named ss n 0 k v (omega arith) (omega arith)
 
 module _ (q : Query) (table : List ℕ) where
   verdict : inferredOf q table .verdict ≡ typesFault q table

@@ -40,15 +40,15 @@ pub struct Inferred {
 }
 
 // The type of an attribute, if the table has it.
-pub struct FoundType {
-    pub is_some: bool,
-    pub number: u64,
+struct FoundType {
+    is_some: bool,
+    number: u64,
 }
 
 // The types of the variables that the statements so far name.
-pub struct KnownTypes {
-    pub is_known: [bool; MAX_SLOTS],
-    pub types: [u64; MAX_SLOTS],
+struct KnownTypes {
+    is_known: [bool; MAX_SLOTS],
+    types: [u64; MAX_SLOTS],
 }
 
 // Infer the type of every variable.
@@ -107,6 +107,35 @@ fn attribute_at(table: &[u64], i: usize) -> u64
     table[ROW_WORDS * i]
 }
 
+// Statement by statement: a variable takes the type that the first statement to name it gives it, and every later use must agree.
+fn infer_statements(items: [Statement; MAX_STATEMENTS], count: usize, table: &[u64]) -> Inferred
+    requires { ⌜ Typable count items (now table) ⌝ }
+    ensures { λ r. ⌜ r ≡ inferredFrom (take count items) (now (table .entry)) ⌝ }
+{
+    let mut known = KnownTypes {
+        is_known: [false; MAX_SLOTS],
+        types: [0; MAX_SLOTS],
+    };
+    let mut i = 0;
+    while i < count {
+        let statement = items[i];
+        let attribute = statement.attribute;
+        let found = find_type(table, attribute);
+        let verdict = check_statement(known, statement, found, i);
+        if let Verdict::Refused(_) = verdict {
+            return not_inferred(verdict);
+        }
+        let next = with_statement(known, statement, found.number);
+        known = next;
+        i += 1;
+    }
+    let types = known.types;
+    Inferred {
+        verdict: Verdict::Fine,
+        types,
+    }
+}
+
 // The type of an attribute. The rows ascend by attribute, so it is searched by halves.
 fn find_type(table: &[u64], attribute: Aid) -> FoundType
     requires { ⌜ isTable (now table) ≡ true ⌝ }
@@ -138,35 +167,6 @@ fn find_type(table: &[u64], attribute: Aid) -> FoundType
     }
 }
 
-// Statement by statement: a variable takes the type that the first statement to name it gives it, and every later use must agree.
-fn infer_statements(items: [Statement; MAX_STATEMENTS], count: usize, table: &[u64]) -> Inferred
-    requires { ⌜ Typable count items (now table) ⌝ }
-    ensures { λ r. ⌜ r ≡ inferredFrom (take count items) (now (table .entry)) ⌝ }
-{
-    let mut known = KnownTypes {
-        is_known: [false; MAX_SLOTS],
-        types: [0; MAX_SLOTS],
-    };
-    let mut i = 0;
-    while i < count {
-        let statement = items[i];
-        let attribute = statement.attribute;
-        let found = find_type(table, attribute);
-        let verdict = check_statement(known, statement, found, i);
-        if let Verdict::Refused(_) = verdict {
-            return not_inferred(verdict);
-        }
-        let next = with_statement(known, statement, found.number);
-        known = next;
-        i += 1;
-    }
-    let types = known.types;
-    Inferred {
-        verdict: Verdict::Fine,
-        types,
-    }
-}
-
 // 52 where the entity is no reference, 51 where the attribute does not exist, 52 where the value has another type than the attribute.
 fn check_statement(known: KnownTypes, statement: Statement, found: FoundType, i: usize) -> Verdict
     requires { ⌜ Below maxSlots statement ⌝ }
@@ -176,13 +176,14 @@ fn check_statement(known: KnownTypes, statement: Statement, found: FoundType, i:
     if !unifies(known, entity, REFERENCE) {
         return refuse(refusal::TYPE_CLASH, i);
     }
+    // The Rust leaves open what happens if the attribute does not exist.
     if !found.is_some {
         return refuse(refusal::NO_SUCH_ATTRIBUTE, i);
     }
     let value = statement.value;
     match value {
         QueryValue::Const(_) => {
-            // A constant is skipped, as in the Rust: nothing says of what type it is.
+            // A constant is skipped, as in the Rust: a u64 may be of any type.
             Verdict::Fine
         }
         QueryValue::Var(v) => {
