@@ -14,8 +14,8 @@ use Rattle.query.specs.declared.QueryValue.the-variants.{Const, Var as Variable
 use Rattle.query.specs.declared.Statement.{Statement}
 use Rattle.query.specs.Query.{isVariable, named}
 use Rattle.planner.proofs.Statements.{named-more}
-use Rattle.types.specs.Types.{isTyped, typeOf, reference, typeGiven, clashes, valueClashes, statementFault, statementsFault}
-use Rattle.types.specs.Meaning.{Assignment, ValueFits, StatementFits, Fits, AllTyped}
+use Rattle.types.specs.Types.{isTyped, typeOf, reference, typeGiven, clashes, valueClashes, statementTypeFault, statementsTypeFault}
+use Rattle.types.specs.Meaning.{Assignment, ValueFits, StatementFits, TypesFit, AllTyped}
 use Rattle.types.proofs.Given.{given-front}
 
 -- of three tests one holds, and each that holds gives a
@@ -26,8 +26,8 @@ choice false false r t g a e x y z = z e
 
 module _ (table : List ℕ) where
   -- one assignment for another that says the same
-  pub fits-same : (f g : Assignment) → ((v : ℕ) → f v ≡ g v) → (l : List Statement) → Fits table f l → Fits table g l
-  unfolding Fits
+  pub fits-same : (f g : Assignment) → ((v : ℕ) → f v ≡ g v) → (l : List Statement) → TypesFit table f l → TypesFit table g l
+  unfolding TypesFit
   fits-same f g e [] h = tt
   fits-same f g e (s ∷ l) h =
       (record { entity-fits = sym (e (s .entity .0)) ∙ h .0 .entity-fits; value-fits = value (s .value) (h .0 .value-fits) }, fits-same f g e l (h .1))
@@ -38,13 +38,13 @@ module _ (table : List ℕ) where
 
   module _ (types : Assignment) where
     -- the front of statements, and the last
-    pub fits-front : (l m : List Statement) → Fits table types (l ++ m) → Fits table types l
-    unfolding Fits
+    pub fits-front : (l m : List Statement) → TypesFit table types (l ++ m) → TypesFit table types l
+    unfolding TypesFit
     fits-front [] m h = tt
     fits-front (s ∷ l) m h = (h .0, fits-front l m (h .1))
 
-    fits-last : (l : List Statement) (s : Statement) → Fits table types (l ++ (s ∷ [])) → StatementFits table types s
-    unfolding Fits
+    fits-last : (l : List Statement) (s : Statement) → TypesFit table types (l ++ (s ∷ [])) → StatementFits table types s
+    unfolding TypesFit
     fits-last [] s h = h .0
     fits-last (b ∷ l) s h = fits-last l s (h .1)
 
@@ -53,8 +53,8 @@ module _ (table : List ℕ) where
     value-given (Variable x) t h v e = let q : x .0 ≡ v = eqb-true _ _ e in rw (← q) (sym h)
 
     -- types that fit are the types given
-    pub fits-given : (l : List Statement) → Fits table types l → (v : ℕ) → named l v ≡ true → typeGiven table l v ≡ types v
-    unfolding Fits typeGiven named
+    pub fits-given : (l : List Statement) → TypesFit table types l → (v : ℕ) → named l v ≡ true → typeGiven table l v ≡ types v
+    unfolding TypesFit typeGiven named
     fits-given [] h v e = absurd (false≢true e)
     fits-given (s ∷ l) h v e =
         choice (eqb (s .entity .0) v) (isVariable (s .value) v) (named l v) (typeOf table (s .attribute .0)) (typeGiven table l v) (types v) e
@@ -71,7 +71,7 @@ module _ (table : List ℕ) where
     value-named v e = rw (named-more before s v, e, or-true (eqb (s .entity .0) v)) (or-true (named before v))
 
     -- where types fit, neither use clashes
-    module _ (types : Assignment) (h : Fits table types (before ++ (s ∷ []))) where
+    module _ (types : Assignment) (h : TypesFit table types (before ++ (s ∷ []))) where
       pub fits-entity : clashes table (before ++ (s ∷ [])) (s .entity .0) reference ≡ false
       fits-entity =
           let g = fits-given types (before ++ (s ∷ [])) h (s .entity .0) entity-named ∙ fits-last types before s h .entity-fits in
@@ -88,7 +88,7 @@ module _ (table : List ℕ) where
       fits-value = fits-value-as (s .value) refl (fits-last types before s h .value-fits)
 
     -- where neither clashes, the types given fit the statement, whatever follows it
-    module _ (i : ℕ) (fine : statementFault table before s i ≡ Fine) where
+    module _ (i : ℕ) (fine : statementTypeFault table before s i ≡ Fine) where
       pub fine-typed : isTyped table (s .attribute .0) ≡ true
       fine-typed =
           let f = or-fine (refuseIf (clashes table (before ++ (s ∷ [])) (s .entity .0) reference) 52 i) _ fine in
@@ -111,22 +111,22 @@ module _ (table : List ℕ) where
           }
 
   -- so of all statements: none is refused where their attributes are there and some types fit
-  pub fits-fine : (types : Assignment) (before ss : List Statement) (i : ℕ) → Fits table types (before ++ ss) → AllTyped table ss
-      → statementsFault table before ss i ≡ Fine
-  unfolding statementsFault AllTyped
+  pub fits-fine : (types : Assignment) (before ss : List Statement) (i : ℕ) → TypesFit table types (before ++ ss) → AllTyped table ss
+      → statementsTypeFault table before ss i ≡ Fine
+  unfolding statementsTypeFault AllTyped
   fits-fine types before [] i h a = refl
   fits-fine types before (s ∷ ss) i h a =
-      let j : Fits table types ((before ++ (s ∷ [])) ++ ss) = rw (append-assoc before (s ∷ []) ss) h in
+      let j : TypesFit table types ((before ++ (s ∷ [])) ++ ss) = rw (append-assoc before (s ∷ []) ss) h in
       let f = fits-front types (before ++ (s ∷ [])) ss j in
       rw (fits-entity before s types f, fits-value before s types f, a .0) (fits-fine types (before ++ (s ∷ [])) ss (i + 1) j (a .1))
 
   -- and where none is refused, the attributes are there and the types given fit
-  pub fine-fits : (before ss : List Statement) (i : ℕ) → statementsFault table before ss i ≡ Fine
-      → AllTyped table ss × Fits table (typeGiven table (before ++ ss)) ss
-  unfolding statementsFault AllTyped Fits
+  pub fine-fits : (before ss : List Statement) (i : ℕ) → statementsTypeFault table before ss i ≡ Fine
+      → AllTyped table ss × TypesFit table (typeGiven table (before ++ ss)) ss
+  unfolding statementsTypeFault AllTyped TypesFit
   fine-fits before [] i e = (tt, tt)
   fine-fits before (s ∷ ss) i e =
-      let f = or-fine (statementFault table before s i) _ e in
+      let f = or-fine (statementTypeFault table before s i) _ e in
       let r = fine-fits (before ++ (s ∷ [])) ss (i + 1) (f .1) in
       let w = append-assoc before (s ∷ []) ss in
       ((fine-typed before s i (f .0), r .0), (rw w at (given-fits before s i (f .0) ss), rw w at (r .1)))

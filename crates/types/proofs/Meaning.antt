@@ -23,8 +23,8 @@ use Rattle.tables.proofs.Order.{lt-or-ge}
 use Rattle.query.specs.declared.Query.{Query}
 use Rattle.query.specs.Query.{statementsOf, zeroStatement}
 use Rattle.planner.specs.Refusals.{planFault}
-use Rattle.types.specs.Types.{isTable, typeGiven, statementsFault, typesFault, notInferred, inferredOf}
-use Rattle.types.specs.Meaning.{Fits, CanBeTyped, typesIn, WellTyped, Missing, Clash, TypesDemanded}
+use Rattle.types.specs.Types.{isTable, typeGiven, statementsTypeFault, typesFault, notInferred, inferredOf}
+use Rattle.types.specs.Meaning.{TypesFit, CanBeTyped, typesIn, WellTyped, Missing, Clash, TypesDemanded}
 use Rattle.types.proofs.Variables.{plannable, given-past, variables-named}
 use Rattle.types.proofs.Answer.{zeros-past}
 use Rattle.types.proofs.Fitting.{fits-same, fits-given, fits-fine, fine-fits}
@@ -56,7 +56,7 @@ module _ (q : Query) (table : List ℕ) where
   pub record Passed : Type 0 where
     pub plans : planFault q ≡ Fine
     pub table-there : isTable table ≡ true
-    pub statements-fine : statementsFault table [] (statementsOf q) 0 ≡ Fine
+    pub statements-fine : statementsTypeFault table [] (statementsOf q) 0 ≡ Fine
 
   passed : inferredOf q table .verdict ≡ Fine → Passed
   unfolding typesFault
@@ -86,7 +86,7 @@ module _ (q : Query) (table : List ℕ) where
   unfolding inferredOf
   types-long p = rw (fine p) (padded-length 0 maxSlots (tabled (typeGiven table (statementsOf q)) (q .«variable_count»)))
 
-  types-fit : Passed → Fits table (typesIn (inferredOf q table .types)) (statementsOf q)
+  types-fit : Passed → TypesFit table (typesIn (inferredOf q table .types)) (statementsOf q)
   types-fit p = fits-same table _ _ (λ v. sym (types-given p v)) (statementsOf q) (fine-fits table [] (statementsOf q) 0 (p .statements-fine) .1)
 
   typable : inferredOf q table .verdict ≡ Fine → CanBeTyped q table

@@ -1,5 +1,5 @@
 -- Planning's own checks give no number over 16: a 50, 51 or 52 is of the types.
-use Prim.Native.Nat.{ℕ, zero, suc, _+_, _≤_}
+use Prim.Native.Nat.{ℕ, _+_, _≤_}
 use mathlib.Core.List.{List, [], _∷_, _++_}
 use mathlib.Core.Bool.{Bool, true, false, not}
 use native.Mathlib.Omega.{arith}
@@ -7,7 +7,8 @@ use lib.Dec.{ltb, leb, eqb}
 use Rattle.capacity.specs.Capacity.{maxStatements, maxSlots, maxSelects}
 use Rattle.refusal.specs.declared.Verdict.{Verdict}
 use Rattle.refusal.specs.declared.Verdict.the-variants.{Fine, Refused}
-use Rattle.refusal.specs.Verdict.{refuseIf, orElse}
+use Rattle.refusal.specs.Verdict.{refuseIf, orElse, firstFault, refuseFirst}
+use Rattle.lists.specs.Span.{span}
 use Rattle.query.specs.declared.Var.{Var}
 use Rattle.query.specs.declared.Statement.{Statement}
 use Rattle.query.specs.declared.Query.{Query}
@@ -27,20 +28,10 @@ or-most : (a b : Verdict) → AtMost 16 a → AtMost 16 b → AtMost 16 (orElse 
 or-most Fine b h g = g
 or-most (Refused r) b h g = h
 
-statements-most : (n : ℕ) (ss : List Statement) (i : ℕ) → AtMost 16 (statementsFault n ss i)
-unfolding statementsFault
-statements-most n [] i = tt
-statements-most n (s ∷ ss) i = or-most (refuseIf (high n s) 14 i) _ (if-most (high n s) 14 i (omega arith)) (statements-most n ss (i + 1))
-
-selects-most : (n : ℕ) (vs : List Var) (i : ℕ) → AtMost 16 (selectsFault n vs i)
-unfolding selectsFault
-selects-most n [] i = tt
-selects-most n (v ∷ vs) i = or-most (refuseIf (leb n (v .0)) 14 i) _ (if-most (leb n (v .0)) 14 i (omega arith)) (selects-most n vs (i + 1))
-
-unused-most : (ss : List Statement) (left v : ℕ) → AtMost 16 (unusedFault ss left v)
-unfolding unusedFault
-unused-most ss zero v = tt
-unused-most ss (suc left) v = or-most (refuseIf (not (named ss v)) 15 v) _ (if-most (not (named ss v)) 15 v (omega arith)) (unused-most ss left (v + 1))
+first-most : {A : Type 0} (test : A → Bool) (n : ℕ) → n ≤ 16 → (p : ℕ) (xs : List A) → AtMost 16 (refuseFirst test n p xs)
+unfolding refuseFirst firstFault
+first-most test n h p [] = tt
+first-most test n h p (x ∷ xs) = or-most (refuseIf (test x) n p) _ (if-most (test x) n p h) (first-most test n h (p + 1) xs)
 
 bound-most : (before ss : List Statement) (i : ℕ) → AtMost 16 (boundTwiceFault before ss i)
 unfolding boundTwiceFault
@@ -56,12 +47,12 @@ capacity-most n m ss c =
     (or-most (refuseIf (ltb maxSelects c) 12 0) _ (if-most (ltb maxSelects c) 12 0 (omega arith)) (if-most (eqb c 0) 13 0 (omega arith))))
 
 pub plan-most : (q : Query) → AtMost 16 (planFault q)
-unfolding planFault queryFault variablesFault
+unfolding planFault queryFault variablesFault statementsFault selectsFault unusedFault
 plan-most q =
     let n = q .«variable_count» in
     let m = q .«where_statements» .count in
     let ss = statementsOf q in
     or-most (queryFault q) (boundTwiceFault [] ss 0)
     (or-most (capacityFault n m ss (q .select .count)) (variablesFault n m ss (selectsOf q)) (capacity-most n m ss (q .select .count))
-    (or-most (statementsFault n ss 0) _ (statements-most n ss 0) (or-most (selectsFault n (selectsOf q) m) _ (selects-most n (selectsOf q) m) (unused-most ss n 0))))
+    (or-most (statementsFault n ss 0) _ (first-most (high n) 14 (omega arith) 0 ss) (or-most (selectsFault n (selectsOf q) m) _ (first-most (λ (v : Var). leb n (v .0)) 14 (omega arith) m (selectsOf q)) (first-most (λ (u : ℕ). not (named ss u)) 15 (omega arith) 0 (span 0 n)))))
     (bound-most [] ss 0)

@@ -11,8 +11,8 @@ use Rattle.refusal.specs.declared.Verdict.the-variants.{Fine, Refused}
 use Rattle.refusal.specs.Verdict.{refused, refuseIf, orElse}
 use Rattle.query.specs.declared.Statement.{Statement}
 use Rattle.query.specs.Query.{zeroStatement}
-use Rattle.types.specs.Types.{isTyped, typeOf, reference, clashes, valueClashes, statementFault, statementsFault}
-use Rattle.types.specs.Meaning.{Assignment, Fits}
+use Rattle.types.specs.Types.{isTyped, typeOf, reference, clashes, valueClashes, statementTypeFault, statementsTypeFault}
+use Rattle.types.specs.Meaning.{Assignment, TypesFit}
 use Rattle.types.proofs.Fitting.{fits-entity, fits-value}
 
 -- a verdict's number, 0 where it is fine, and its place
@@ -52,13 +52,13 @@ pub record Stopped (table : List ℕ) (before ss : List Statement) (i : ℕ) (r 
   pub at : ℕ
   pub there : at < length ss
   pub place : r .place ≡ i + at
-  pub fine-before : statementsFault table before (take at ss) i ≡ Fine
-  pub this : statementFault table (before ++ take at ss) (getD ss at zeroStatement) (r .place) ≡ Refused r
+  pub fine-before : statementsTypeFault table before (take at ss) i ≡ Fine
+  pub this : statementTypeFault table (before ++ take at ss) (getD ss at zeroStatement) (r .place) ≡ Refused r
 
 module _ (table : List ℕ) where
-  first-stopped : (before : List Statement) (s : Statement) (ss : List Statement) (i : ℕ) (r : Refusal) → statementFault table before s i ≡ Refused r
+  first-stopped : (before : List Statement) (s : Statement) (ss : List Statement) (i : ℕ) (r : Refusal) → statementTypeFault table before s i ≡ Refused r
       → Stopped table before (s ∷ ss) i r
-  unfolding statementsFault
+  unfolding statementsTypeFault
   first-stopped before s ss i r e =
       let p : i ≡ r .place =
       tests-place (clashes table (before ++ (s ∷ [])) (s .entity .0) reference) (not (isTyped table (s .attribute .0)))
@@ -68,12 +68,12 @@ module _ (table : List ℕ) where
         there = omega arith;
         place = omega (arith, p);
         fine-before = refl;
-        this = rw (append-nil before) (ap (λ (j : ℕ). statementFault table before s j) (sym p) ∙ e);
+        this = rw (append-nil before) (ap (λ (j : ℕ). statementTypeFault table before s j) (sym p) ∙ e);
       }
 
-  later-stopped : (before : List Statement) (s : Statement) (ss : List Statement) (i : ℕ) (r : Refusal) → statementFault table before s i ≡ Fine
+  later-stopped : (before : List Statement) (s : Statement) (ss : List Statement) (i : ℕ) (r : Refusal) → statementTypeFault table before s i ≡ Fine
       → Stopped table (before ++ (s ∷ [])) ss (i + 1) r → Stopped table before (s ∷ ss) i r
-  unfolding statementsFault
+  unfolding statementsTypeFault
   later-stopped before s ss i r f z = record {
     at = suc (z .at);
     there = omega (arith, z .there);
@@ -82,26 +82,26 @@ module _ (table : List ℕ) where
     this = rw (append-assoc before (s ∷ []) (take (z .at) ss)) at (z .this);
   }
 
-  pub stopped : (before ss : List Statement) (i : ℕ) (r : Refusal) → statementsFault table before ss i ≡ Refused r → Stopped table before ss i r
-  unfolding statementsFault
+  pub stopped : (before ss : List Statement) (i : ℕ) (r : Refusal) → statementsTypeFault table before ss i ≡ Refused r → Stopped table before ss i r
+  unfolding statementsTypeFault
   stopped before [] i r e = absurd (let z : _≡_ {A = ℕ} 0 1 = cc in omega arith)
-  stopped before (s ∷ ss) i r e = go (statementFault table before s i) refl e (stopped (before ++ (s ∷ [])) ss (i + 1) r)
+  stopped before (s ∷ ss) i r e = go (statementTypeFault table before s i) refl e (stopped (before ++ (s ∷ [])) ss (i + 1) r)
     where
-      go : (v : Verdict) → statementFault table before s i ≡ v → orElse v (statementsFault table (before ++ (s ∷ [])) ss (i + 1)) ≡ Refused r
-          → (statementsFault table (before ++ (s ∷ [])) ss (i + 1) ≡ Refused r → Stopped table (before ++ (s ∷ [])) ss (i + 1) r)
+      go : (v : Verdict) → statementTypeFault table before s i ≡ v → orElse v (statementsTypeFault table (before ++ (s ∷ [])) ss (i + 1)) ≡ Refused r
+          → (statementsTypeFault table (before ++ (s ∷ [])) ss (i + 1) ≡ Refused r → Stopped table (before ++ (s ∷ [])) ss (i + 1) r)
           → Stopped table before (s ∷ ss) i r
       go Fine f d rest = later-stopped before s ss i r f (rest d)
       go (Refused x) f d rest = first-stopped before s ss i r (f ∙ d)
 
   module _ (before : List Statement) (s : Statement) (i p : ℕ) where
     -- 51: its attribute is not there
-    pub missing-there : statementFault table before s i ≡ refused 51 p → isTyped table (s .attribute .0) ≡ false
+    pub missing-there : statementTypeFault table before s i ≡ refused 51 p → isTyped table (s .attribute .0) ≡ false
     missing-there =
         tests-second (clashes table (before ++ (s ∷ [])) (s .entity .0) reference) (isTyped table (s .attribute .0))
         (valueClashes table (before ++ (s ∷ [])) (s .value) (typeOf table (s .attribute .0))) i p
 
     -- 52: no types fit it and the statements before it
-    pub clash-unfit : statementFault table before s i ≡ refused 52 p → (types : Assignment) → Fits table types (before ++ (s ∷ [])) → ⊥
+    pub clash-unfit : statementTypeFault table before s i ≡ refused 52 p → (types : Assignment) → TypesFit table types (before ++ (s ∷ [])) → ⊥
     clash-unfit e types h =
         tests-others (not (isTyped table (s .attribute .0))) i p
         (rw (fits-entity table before s types h, fits-value table before s types h) at e)

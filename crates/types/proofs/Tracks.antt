@@ -19,8 +19,8 @@ use Rattle.query.specs.Query.{isVariable, named}
 use Rattle.query_check.specs.Below.{ValueBelow, Below}
 use Rattle.planner.proofs.Statements.{named-more}
 use Rattle.types.specs.declared.KnownTypes.{KnownTypes}
-use Rattle.types.specs.Types.{isTyped, typeOf, reference, typeGiven, clashes, valueClashes, statementFault}
-use Rattle.types.specs.Record.{foundIn, unifiesIn, valueUnifiesIn, withTypeIn, withValueIn, statementFaultIn, withStatementIn}
+use Rattle.types.specs.Types.{isTyped, typeOf, reference, typeGiven, clashes, valueClashes, statementTypeFault}
+use Rattle.types.specs.Record.{foundIn, unifiesIn, valueUnifiesIn, withTypeIn, withValueIn, statementTypeFaultIn, withStatementIn}
 use Rattle.types.proofs.Given.{given-unnamed, given-more}
 
 -- the arrays say which variables are known, and their types
@@ -131,16 +131,16 @@ module _ (table : List ℕ) (before : List Statement) {k : KnownTypes} (r : Trac
         rw (← q) (rw (u .says-known (x .0) b, u .says-type (x .0) b) at h)
 
   -- so a statement is refused as by the definition
-  pub tracks-fault : (i : ℕ) → statementFaultIn k s (foundIn table (s .attribute .0)) i ≡ statementFault table before s i
-  unfolding statementFaultIn
+  pub tracks-fault : (i : ℕ) → statementTypeFaultIn k s (foundIn table (s .attribute .0)) i ≡ statementTypeFault table before s i
+  unfolding statementTypeFaultIn
   tracks-fault i = go (unifiesIn k (s .entity .0) reference) refl
     where
-      go : (b : Bool) → unifiesIn k (s .entity .0) reference ≡ b → statementFaultIn k s (foundIn table (s .attribute .0)) i ≡ statementFault table before s i
+      go : (b : Bool) → unifiesIn k (s .entity .0) reference ≡ b → statementTypeFaultIn k s (foundIn table (s .attribute .0)) i ≡ statementTypeFault table before s i
       go true e = rw (entity-decides, value-decides e (s .value) refl (low .value-below))
       go false e = simp (entity-decides, e)
 
   -- and a statement more that is not refused
-  pub tracks-more : (i : ℕ) → statementFault table before s i ≡ Fine
+  pub tracks-more : (i : ℕ) → statementTypeFault table before s i ≡ Fine
       → Tracks (withStatementIn k s (typeOf table (s .attribute .0))) (named (before ++ (s ∷ []))) (typeGiven table (before ++ (s ∷ [])))
   unfolding withStatementIn typeGiven
   tracks-more i fine =

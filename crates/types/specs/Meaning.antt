@@ -31,9 +31,9 @@ pub record StatementFits (table : List ℕ) (types : Assignment) (s : Statement)
   pub value-fits : ValueFits types (s .value) (typeOf table (s .attribute .0))
 
 -- the types fit each of the statements
-unfoldable pub Fits : List ℕ → Assignment → List Statement → Type 0
-Fits table types [] = Unit {0}
-Fits table types (s ∷ ss) = StatementFits table types s × Fits table types ss
+unfoldable pub TypesFit : List ℕ → Assignment → List Statement → Type 0
+TypesFit table types [] = Unit {0}
+TypesFit table types (s ∷ ss) = StatementFits table types s × TypesFit table types ss
 
 -- the attribute of each of the statements is in the table
 unfoldable pub AllTyped : List ℕ → List Statement → Type 0
@@ -46,7 +46,7 @@ pub record CanBeTyped (q : Query) (table : List ℕ) : Type 0 where
   pub ascends : isTable table ≡ true
   pub attributes-there : AllTyped table (statementsOf q)
   pub types : Assignment
-  pub fits : Fits table types (statementsOf q)
+  pub fits : TypesFit table types (statementsOf q)
 
 -- what an answer's array says: the type at each variable's place
 abbrev pub typesIn : List ℕ → Assignment
@@ -54,8 +54,8 @@ typesIn types v = getD types v 0
 
 -- an answer that is not refused: its types fit every statement, no variable could have another type, and past the variables there are zeros
 pub record WellTyped (q : Query) (table types : List ℕ) : Type 0 where
-  pub fits : Fits table (typesIn types) (statementsOf q)
-  pub one-type : (other : Assignment) → Fits table other (statementsOf q) → (v : ℕ) → v < q .«variable_count» → other v ≡ typesIn types v
+  pub fits : TypesFit table (typesIn types) (statementsOf q)
+  pub one-type : (other : Assignment) → TypesFit table other (statementsOf q) → (v : ℕ) → v < q .«variable_count» → other v ≡ typesIn types v
   pub zeros-past : (v : ℕ) → q .«variable_count» ≤ v → typesIn types v ≡ 0
   pub as-long : length types ≡ maxSlots
 
@@ -69,8 +69,8 @@ pub record Missing (q : Query) (table : List ℕ) (i : ℕ) : Type 0 where
 pub record Clash (q : Query) (table : List ℕ) (i : ℕ) : Type 0 where
   pub statement-there : i < length (statementsOf q)
   pub types-before : Assignment
-  pub before-fits : Fits table types-before (take i (statementsOf q))
-  pub none-fits : (types : Assignment) → Fits table types (take (i + 1) (statementsOf q)) → ⊥
+  pub before-fits : TypesFit table types-before (take i (statementsOf q))
+  pub none-fits : (types : Assignment) → TypesFit table types (take (i + 1) (statementsOf q)) → ⊥
 
 -- what `infer_types` must answer: exactly the queries that can be typed are answered, with their types; a refusal has its reason
 pub record TypesDemanded (q : Query) (table : List ℕ) (r : Inferred) : Type 0 where

@@ -19,7 +19,7 @@ use Rattle.query_check.specs.Below.{Below}
 use Rattle.types.specs.declared.Inferred.{Inferred}
 use Rattle.types.specs.declared.FoundType.{FoundType}
 use Rattle.types.specs.declared.KnownTypes.{KnownTypes}
-use Rattle.types.specs.Types.{isTable, isTyped, typeOf, reference, typeGiven, statementsFault, notInferred}
+use Rattle.types.specs.Types.{isTable, isTyped, typeOf, reference, typeGiven, statementsTypeFault, notInferred}
 
 -- what the checks before leave of the statements and the table
 pub record Typable (count : ℕ) (items : List Statement) (table : List ℕ) : Type 0 where
@@ -44,8 +44,8 @@ abbrev pub withValueIn : KnownTypes → QueryValue → ℕ → KnownTypes
 withValueIn k (Const c) t = k
 withValueIn k (Variable x) t = withTypeIn k (x .0) t
 
-unfoldable pub statementFaultIn : KnownTypes → Statement → FoundType → ℕ → Verdict
-statementFaultIn k s found i =
+unfoldable pub statementTypeFaultIn : KnownTypes → Statement → FoundType → ℕ → Verdict
+statementTypeFaultIn k s found i =
     orElse (refuseIf (not (unifiesIn k (s .entity .0) reference)) 52 i)
     (orElse (refuseIf (not (found .«is_some»)) 51 i)
     (refuseIf (not (valueUnifiesIn (withTypeIn k (s .entity .0) reference) (s .value) (found .number))) 52 i))
@@ -56,4 +56,4 @@ withStatementIn k s t = withValueIn (withTypeIn k (s .entity .0) reference) (s .
 -- the answer for the statements, where there is a place for each variable and past the variables no statement names one
 unfoldable pub inferredFrom : List Statement → List ℕ → Inferred
 inferredFrom ss table =
-    unless (statementsFault table [] ss 0) notInferred (record { verdict = Fine; types = tabled (typeGiven table ss) maxSlots })
+    unless (statementsTypeFault table [] ss 0) notInferred (record { verdict = Fine; types = tabled (typeGiven table ss) maxSlots })

@@ -59,20 +59,20 @@ valueClashes table ss (Variable x) t = clashes table ss (x .0) t
 
 -- statement i after those before it: 52, entity clash; 51, attribute not in the table, a constant's too; 52, value clash. The statement
 -- itself counts: of (x, a, x) the entity's use makes x a reference
-abbrev pub statementFault : List ℕ → List Statement → Statement → ℕ → Verdict
-statementFault table before s i =
+abbrev pub statementTypeFault : List ℕ → List Statement → Statement → ℕ → Verdict
+statementTypeFault table before s i =
     orElse (refuseIf (clashes table (before ++ (s ∷ [])) (s .entity .0) reference) 52 i)
     (orElse (refuseIf (not (isTyped table (s .attribute .0))) 51 i)
     (refuseIf (valueClashes table (before ++ (s ∷ [])) (s .value) (typeOf table (s .attribute .0))) 52 i))
 
 -- statement by statement, from number i on
-unfoldable pub statementsFault : List ℕ → List Statement → List Statement → ℕ → Verdict
-statementsFault table before [] i = Fine
-statementsFault table before (s ∷ ss) i = orElse (statementFault table before s i) (statementsFault table (before ++ (s ∷ [])) ss (i + 1))
+unfoldable pub statementsTypeFault : List ℕ → List Statement → List Statement → ℕ → Verdict
+statementsTypeFault table before [] i = Fine
+statementsTypeFault table before (s ∷ ss) i = orElse (statementTypeFault table before s i) (statementsTypeFault table (before ++ (s ∷ [])) ss (i + 1))
 
 -- after planning's own checks 50, table of odd length or not ascending; then statement by statement
 unfoldable pub typesFault : Query → List ℕ → Verdict
-typesFault q table = orElse (planFault q) (orElse (refuseIf (not (isTable table)) 50 0) (statementsFault table [] (statementsOf q) 0))
+typesFault q table = orElse (planFault q) (orElse (refuseIf (not (isTable table)) 50 0) (statementsTypeFault table [] (statementsOf q) 0))
 
 -- the answer is one type per variable, zeros past them, and all zeros on a refusal
 abbrev pub notInferred : Verdict → Inferred

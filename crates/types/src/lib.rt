@@ -25,7 +25,7 @@ ghost use lib.ListN.{length, getD, take};
 ghost use Rattle.capacity.specs.Capacity.{maxSlots};
 ghost use Rattle.query_check.specs.Below.{Below};
 ghost use Rattle.types.specs.Types.{isTable, inferredOf, notInferred};
-ghost use Rattle.types.specs.Record.{Typable, foundIn, unifiesIn, withTypeIn, statementFaultIn, withStatementIn, inferredFrom};
+ghost use Rattle.types.specs.Record.{Typable, foundIn, unifiesIn, withTypeIn, statementTypeFaultIn, withStatementIn, inferredFrom};
 
 // The type of an entity. Any other number is a type that only the table's author knows.
 pub const REFERENCE: u64 = 0;
@@ -170,7 +170,7 @@ fn find_type(table: &[u64], attribute: Aid) -> FoundType
 // 52 where the entity is no reference, 51 where the attribute does not exist, 52 where the value has another type than the attribute.
 fn check_statement(known: KnownTypes, statement: Statement, found: FoundType, i: usize) -> Verdict
     requires { ⌜ Below maxSlots statement ⌝ }
-    ensures { λ r. ⌜ r ≡ statementFaultIn known statement found i ⌝ }
+    ensures { λ r. ⌜ r ≡ statementTypeFaultIn known statement found i ⌝ }
 {
     let entity = statement.entity;
     if !unifies(known, entity, REFERENCE) {

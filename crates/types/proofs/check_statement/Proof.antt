@@ -4,7 +4,7 @@ use mathlib.Core.Bool.{Bool, true, false}
 use borrow.Author.Needs.{needs}
 use borrow.Author.Tests.{not-true, not-false}
 use Rattle.types.specs.Types.{reference}
-use Rattle.types.specs.Record.{unifiesIn, valueUnifiesIn, withTypeIn, statementFaultIn}
+use Rattle.types.specs.Record.{unifiesIn, valueUnifiesIn, withTypeIn, statementTypeFaultIn}
 use Rattle.types.proofs.check_statement.Statement.{statement}
 use Rattle.types.proofs.check_statement.Tie as tie
 
@@ -17,17 +17,17 @@ there : (c : tie.Else2) → c .before .before .before .before .before .args .fou
 there c = not-false _ (c .if2 .left)
 
 entity-clash : tie.Need-returns
-unfolding statementFaultIn
+unfolding statementTypeFaultIn
 entity-clash c = simp (sym (c .before .before .unifies .ensures) ∙ not-true _ (c .before .if1 .taken)) (c .refuse .ensures)
 
 missing : tie.Need-returns-2
-unfolding statementFaultIn
+unfolding statementTypeFaultIn
 missing c =
     let d = c .before .before .before in
     simp (entity d, not-true (d .before .before .before .args .found .«is_some») (c .before .if2 .taken)) (c .refuse2 .ensures)
 
 constant : tie.Need-returns-3
-unfolding statementFaultIn
+unfolding statementTypeFaultIn
 constant c =
     let d = c .before .before in
     simp (entity (d .before .before), there d, c .enum-told .given .1)
@@ -45,13 +45,13 @@ value c t e =
     simp (d .value .given .1) (sym (rw (c .before .with-type .ensures) at (c .unifies2 .ensures)) ∙ e)
 
 variable : tie.Need-returns-4
-unfolding statementFaultIn
+unfolding statementTypeFaultIn
 variable c =
     let d = c .before .before .before .before .before .before in
     simp (entity (d .before .before), there d, value (c .before) true (c .if3 .taken))
 
 value-clash : tie.Need-returns-5
-unfolding statementFaultIn
+unfolding statementTypeFaultIn
 value-clash c =
     let d = c .before .before .before .before .before .before .before in
     simp (entity (d .before .before), there d, value (c .before .before) false (c .before .if3 .left)) (c .refuse3 .ensures)

@@ -7,7 +7,7 @@ use lib.ListN.{length, getD}
 use Rattle.capacity.specs.Capacity.{maxStatements, maxSlots}
 use Rattle.query.specs.Query.{zeroStatement}
 use Rattle.query_check.specs.Below.{Below}
-use Rattle.types.specs.Record.{foundIn, statementFaultIn}
+use Rattle.types.specs.Record.{foundIn, statementTypeFaultIn}
 use Rattle.types.proofs.Begun.{Begun, begun-none, begun-all, begun-refused, begun-more}
 use Rattle.types.proofs.infer_statements.Statement.{statement}
 use Rattle.types.proofs.infer_statements.Tie as tie
@@ -32,7 +32,7 @@ checked : (c : tie.After-check-statement Inv μ) →
     let l = c .before .before .before .before in
     let a = l .before .before .before .args in
     let s = getD (a .t1) (l .before .loop .i) zeroStatement in
-    c .check-statement .result ≡ statementFaultIn (l .before .loop .known) s (foundIn (a .table .now) (s .attribute .0)) (l .before .loop .i)
+    c .check-statement .result ≡ statementTypeFaultIn (l .before .loop .known) s (foundIn (a .table .now) (s .attribute .0)) (l .before .loop .i)
 checked c = rw (c .before .find-type .ensures) at (c .check-statement .ensures)
 
 refused : tie.Need-returns Inv μ
