@@ -15,7 +15,7 @@
 
    Stack: no call takes more than LOADER_STACK bytes (loader/run measures it).
 
-   A refused call writes its answer, and nothing else: plan, order, rows, text, swap and swap state stay as they were. */
+   A refused call writes its answer, and nothing else: plan, order, types, rows, text, swap and swap state stay as they were. */
 #ifndef LOADER_H
 #define LOADER_H
 #include <stddef.h>
@@ -25,7 +25,7 @@
 extern "C" {
 #endif
 
-enum { LOADER_STACK = 49152 };
+enum { LOADER_STACK = 53248 };
 
 enum {
     LOADER_MAX_STATEMENTS = 48,
@@ -147,6 +147,13 @@ uint64_t loader_plan(const struct loader_query *query, struct loader_plan *plan,
 /* The cheapest plan over every sound order of at most 6 statements. `order` is the order: statement numbers, outermost first, zeros
    past the last. `first` is the cost. Refusals 10 to 15, 17, 18. */
 uint64_t loader_search(const struct loader_query *query, uint64_t order[LOADER_MAX_SEARCHED], struct loader_plan *plan, struct loader_answer *answer);
+
+/* The type of each variable of a query. The table has two words a row, an attribute and its type, strictly ascending by attribute; a length
+   is in words. Type 0 is a reference, any other number is a type that only the table's author knows. An entity is always a reference, a
+   variable value has its attribute's type, a constant is skipped. `types` gets one type per variable, and zeros past them. A plan of the
+   query does not change by it. Refusals 10 to 16, 50 to 52. */
+uint64_t loader_types(const struct loader_query *query, const uint64_t *table, size_t table_length, uint64_t types[LOADER_MAX_SLOTS],
+                      struct loader_answer *answer);
 
 /* Step a plan to the next one that answers the same. `first` is 1 where it is new; 0 where all were seen, and the initial plan stands
    again. The indexes of the scans that count are written; every other word stays, whatever it says. Refusals 20, 21. */
