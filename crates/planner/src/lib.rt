@@ -101,16 +101,8 @@ pub fn plan(query: Query) -> Planned
 pub fn check_plannable(query: Query) -> Verdict
     ensures { λ r. ⌜ r ≡ planFault query ⌝ }
 {
-    let checked = query_check::check_query(query);
-    if let Verdict::Refused(_) = checked {
-        return checked;
-    }
-    let statements = query.where_statements;
-    let items = statements.items;
-    let count = statements.count;
-    let variables = query.variable_count as usize;
-    let initialized = initialize_scans(variables, items, count);
-    initialized.verdict
+    let planned = plan(query);
+    planned.verdict
 }
 
 // Generate the initial scans to implement the query: a scan for every statement.
