@@ -97,7 +97,7 @@ pub fn plan(query: Query) -> Planned
     Planned { verdict, plan }
 }
 
-// Check that the query can be planned in the given order: 10 to 16. No plan is made.
+// Whether the query can be planned in the given order, or the first of 10 to 16.
 pub fn check_plannable(query: Query) -> Verdict
     ensures { λ r. ⌜ r ≡ planFault query ⌝ }
 {
