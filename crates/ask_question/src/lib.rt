@@ -1,5 +1,6 @@
 // What the numbers of the program's input say (docs/LAYOUT.md, "What the numbers say"): a header of four numbers, and eight parts, each
-// a count and then as many items; one of them stands only where the task has the types of variables checked. `find_parts` finds the parts; the functions that read from them are given the parts that were found.
+// a count and then as many items. The table of types is left out, its count too, where the task does not have types checked. `find_parts`
+// finds the parts; the functions that read from them are given the parts that were found.
 use capacity::MAX_SELECTS;
 use capacity::MAX_SLOTS;
 use capacity::MAX_STATEMENTS;
@@ -30,7 +31,7 @@ pub struct Part {
     pub next: usize,
 }
 
-// The parts of the input, in their order.
+// The parts of the input, in their order. The tables stand last: as they must hold the same facts, a question that lost its end is noticed.
 pub struct Parts {
     pub statements: Part,
     pub selects: Part,
@@ -143,7 +144,8 @@ fn part_at(words: &[u64], at: usize, width: usize) -> Part
     }
 }
 
-// The table of types, whose count stands at a place; where the task does not have types checked, a part that is left out, its count too.
+// The table of types, whose count stands at a place; where the task does not have types checked, a part that is left out, so that the next
+// one begins at that place.
 fn types_at(words: &[u64], at: usize) -> Part
     ensures { λ r. ⌜ r ≡ typesAt (now (words .entry)) at ⌝ }
 {
