@@ -17,6 +17,7 @@ pub const SEARCHES: u64 = 5;
 pub const TABLES: u64 = 6;
 pub const PLAN_PARTS: u64 = 7;
 pub const QUERY_CHECKS: u64 = 8;
+pub const TYPES: u64 = 9;
 
 // Cases, each with its kind before it, and the answers to them, of whole lines.
 pub type Pair = (String, String);

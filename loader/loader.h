@@ -15,7 +15,7 @@
 
    Stack: no call takes more than LOADER_STACK bytes (loader/run measures it).
 
-   A refused call writes its answer, and nothing else: plan, order, rows, text, swap and swap state stay as they were. */
+   A refused call writes its answer, and nothing else: plan, order, types, rows, text, swap and swap state stay as they were. */
 #ifndef LOADER_H
 #define LOADER_H
 #include <stddef.h>
@@ -38,8 +38,8 @@ enum {
 
 /* Why a call is refused. The order in which the numbers are tried is document 01's: planning 10 to 16 ascending; search 10 to 15, 17,
    18; plan check 20, 13, then scan by scan 21 to 24, then 25, then select by select 26 or 29; cost and next 20, 21, cost then 27;
-   evaluation the plan check, 1, 2, 3; text the plan check, 30, 31; a select's name the plan check, 30, 26; swaps 40. Within a number the
-   lowest place is given. */
+   evaluation the plan check, 1, 2, 3; text the plan check, 30, 31; a select's name the plan check, 30, 26; swaps 40; types 10 to 16, 50,
+   then statement by statement 52 of its entity, 51, 52 of its value. Within a number the lowest place is given. */
 enum loader_refusal {
     LOADER_FINE = 0,                  /* not refused */
     LOADER_TABLE_LENGTH = 1,          /* a table's length is no multiple of 3, or lengths differ; place 0 */
@@ -66,7 +66,10 @@ enum loader_refusal {
     LOADER_CONSTANT_SELECTED = 29,    /* a select names a constant; place: select */
     LOADER_NAME_ENDS = 30,            /* name ends fall, pass the name bytes, or aren't one per slot; place 0 */
     LOADER_TEXT_TOO_SHORT = 31,       /* text buffer too short for the whole text; place 0 */
-    LOADER_TOO_MANY_ELEMENTS = 40     /* a swap state of over 48 elements, given or asked for; place 0 */
+    LOADER_TOO_MANY_ELEMENTS = 40,    /* a swap state of over 48 elements, given or asked for; place 0 */
+    LOADER_TYPE_TABLE = 50,           /* a table of types is of odd length or isn't strictly ascending by attribute; place 0 */
+    LOADER_NO_SUCH_ATTRIBUTE = 51,    /* an attribute is not in the table of types; place: statement */
+    LOADER_TYPE_CLASH = 52            /* a variable is used as two types; place: statement */
 };
 
 /* What a call answers, besides what it returns. A call writes all four words. */
@@ -144,6 +147,13 @@ uint64_t loader_plan(const struct loader_query *query, struct loader_plan *plan,
 /* The cheapest plan over every sound order of at most 6 statements. `order` is the order: statement numbers, outermost first, zeros
    past the last. `first` is the cost. Refusals 10 to 15, 17, 18. */
 uint64_t loader_search(const struct loader_query *query, uint64_t order[LOADER_MAX_SEARCHED], struct loader_plan *plan, struct loader_answer *answer);
+
+/* The type of each variable of a query. The table has two words a row, an attribute and its type, strictly ascending by attribute; a length
+   is in words. Type 0 is a reference, any other number is a type that only the table's author knows. An entity is always a reference, a
+   variable value has its attribute's type, a constant is skipped. `types` gets one type per variable, and zeros past them. A plan of the
+   query does not change by it. Refusals 10 to 16, 50 to 52. */
+uint64_t loader_types(const struct loader_query *query, const uint64_t *table, size_t table_length, uint64_t types[LOADER_MAX_SLOTS],
+                      struct loader_answer *answer);
 
 /* Step a plan to the next one that answers the same. `first` is 1 where it is new; 0 where all were seen, and the initial plan stands
    again. The indexes of the scans that count are written; every other word stays, whatever it says. Refusals 20, 21. */

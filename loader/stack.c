@@ -12,12 +12,13 @@ static struct loader_query query, small;
 static struct loader_plan plan, stepped;
 static struct loader_answer answer;
 static struct loader_swaps swaps;
-static uint64_t order[LOADER_MAX_SEARCHED], swap[2], rows[64], ends[LOADER_MAX_SLOTS];
-static const uint64_t table[] = { 1, 1, 1 };
+static uint64_t order[LOADER_MAX_SEARCHED], swap[2], rows[64], ends[LOADER_MAX_SLOTS], types[LOADER_MAX_SLOTS];
+static const uint64_t table[] = { 1, 1, 1 }, attributes[] = { 0, 9, 1, 9, 2, 9 };
 static uint8_t text[1 << 16], stack[ROOM] __attribute__((aligned(4096)));
 
 static void plan_it(void) { loader_plan(&query, &plan, &answer); }
 static void search_it(void) { loader_search(&small, order, &stepped, &answer); }
+static void types_it(void) { loader_types(&query, attributes, 6, types, &answer); }
 static void next_it(void) { loader_next(&stepped, &answer); }
 static void check_it(void) { loader_check(&plan, &answer); }
 static void cost_it(void) { loader_cost(&stepped, &answer); } /* the full plan costs too much: 27 */
@@ -56,12 +57,12 @@ static size_t used(void)
 int main(void)
 {
     static const struct { const char *name; void (*call)(void); } calls[] = {
-        { "plan", plan_it }, { "search", search_it }, { "next", next_it }, { "check", check_it }, { "cost", cost_it },
-        { "tables", tables_it }, { "evaluate", evaluate_it }, { "text", text_it },
+        { "plan", plan_it }, { "search", search_it }, { "types", types_it }, { "next", next_it }, { "check", check_it },
+        { "cost", cost_it }, { "tables", tables_it }, { "evaluate", evaluate_it }, { "text", text_it },
         { "select_name", name_it }, { "permutations", permutations_it }, { "next_swap", swap_it },
     };
     size_t most = 0;
-    /* 48 statements (variable i, attribute 1, constant 1), so that each scan finds the one fact; six of them for the search. */
+    /* 48 statements (variable i, attribute 1, constant 1), so that each scan finds the one fact, and each attribute has a type; six of them for the search. */
     query.variable_count = 48;
     query.statement_count = LOADER_MAX_STATEMENTS;
     query.select_count = LOADER_MAX_SELECTS;

@@ -47,8 +47,9 @@ module _ (ws : List ℕ) (q : Parts) (found : q ≡ partsOf ws) where
   question-is names e f = rw (← found, e, ← f)
 
   -- what is planned for the query that is read by them
-  pub answer-asked : (t : ℕ) (x : Query) (a : Answer) → t ≡ getD ws 0 0 → x ≡ queryWith ws q → a ≡ answerWith t x → a ≡ answerOf ws
-  answer-asked t x a e f g = rw (← found, ← f, ← e) g
+  pub answer-asked : (t : ℕ) (x : Query) (types : List ℕ) (a : Answer) → t ≡ getD ws 0 0 → x ≡ queryWith ws q → types ≡ itemsOf ws (q .types)
+      → a ≡ answerWith t x types → a ≡ answerOf ws
+  answer-asked t x types a e f h g = rw (← found, ← h, ← f, ← e) g
 
   -- their items are the question's names, ends and tables
   pub names-found : {names : List ℕ} → names ≡ itemsOf ws (q .names) → names ≡ namesOf ws
@@ -67,7 +68,7 @@ question-names ws e =
     let all = both-true _ _ e in
     let past = both-true (partsOf ws .eavt .inside) _ (all .0) in
     let task = both-true (leb (length ws) (partsOf ws .eavt .next)) _ (past .1) in
-    let kinds = both-true (leb (getD ws 0 0) 1) _ (task .1) in
+    let kinds = both-true (leb (getD ws 0 0) 3) _ (task .1) in
     (both-true (areKinds (itemsOf ws (partsOf ws .statements))) _ (kinds .1) .1, leb-true _ _ (all .1))
 
 -- they are read into the front of a buffer

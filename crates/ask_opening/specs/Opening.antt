@@ -59,7 +59,7 @@ unfoldable pub openedWith : List ℕ → Plan → ℕ → List ℕ → List ℕ 
 openedWith ws p cost names ends room =
     unless (showingFault ws p names ends room) refusal (record { rows = true; plan = p; text = textOf p names ends ++ costLine cost })
 
--- the refusals of planning, the search and the cost come first
+-- the refusals of the types, planning, the search and the cost come first
 unfoldable pub opened : List ℕ → Answer → ℕ → Said
 opened ws a room = unless (a .verdict) refusal (openedWith ws (a .plan) (a .cost) (namesOf ws) (endsOf ws (a .plan .«slot_count»)) room)
 

@@ -43,7 +43,11 @@ pub fn open(words: &[u64], out: &mut [u8]) -> Opening
         return say_outside(out);
     }
     let query = ask_question::read_query(words, parts);
-    let answer = ask_plan::plan_asked(ask_question::word_at(words, ask_question::TASK), query);
+    let answer = ask_plan::plan_asked(
+        ask_question::word_at(words, ask_question::TASK),
+        query,
+        ask_question::items(words, parts.types),
+    );
     let verdict = answer.verdict;
     if let Verdict::Refused(_) = verdict {
         return say_refusal(verdict, out);

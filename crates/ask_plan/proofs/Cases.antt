@@ -1,28 +1,33 @@
 -- Laws of what is planned for a question, case by case.
 use mathlib.Core.Path.{_≡_}
+use mathlib.Core.Bool.{true, false}
+use mathlib.Core.List.{List}
 use Prim.Native.Nat.{ℕ}
-use borrow.Author.Tests.{eq-eqb, ne-eqb}
 use Rattle.refusal.specs.declared.Refusal.{Refusal}
+use Rattle.refusal.specs.declared.Verdict.{Verdict}
 use Rattle.refusal.specs.declared.Verdict.the-variants.{Fine, Refused}
 use Rattle.plan.specs.declared.Plan.{Plan}
 use Rattle.query.specs.declared.Query.{Query}
 use Rattle.planner.specs.declared.Planned.{Planned}
 use Rattle.planner.specs.Planning.{planOf}
+use Rattle.types.specs.declared.Inferred.{Inferred}
+use Rattle.types.specs.Types.{inferredOf}
 use Rattle.search.specs.declared.Found.{Found}
 use Rattle.search.specs.Search.{searchOf}
 use Rattle.cost.specs.declared.Costed.{Costed}
 use Rattle.cost.specs.Cost.{costOf}
+use Rattle.ask_question.specs.Parts.{checksTypes}
 use Rattle.ask_plan.specs.declared.Answer.{Answer}
-use Rattle.ask_plan.specs.Answer.{refusedWith, plannedFor, costedFor, answerWith}
+use Rattle.ask_plan.specs.Answer.{refusedWith, searches, plannedFor, costedFor, plannedWithCost, typesAsked, answerWith}
 
 module _ (t : ℕ) (q : Query) where
-  pub planned-search : (f : Found) → t ≡ 1 → f ≡ searchOf q → _≡_ {A = Planned} (record { verdict = f .verdict; plan = f .plan }) (plannedFor t q)
+  pub planned-search : (f : Found) → searches t ≡ true → f ≡ searchOf q → _≡_ {A = Planned} (record { verdict = f .verdict; plan = f .plan }) (plannedFor t q)
   unfolding plannedFor
-  planned-search f h e = rw (eq-eqb t 1 h, e)
+  planned-search f h e = rw (h, e)
 
-  pub planned-given : (p : Planned) → (t ≡ 1 → ⊥) → p ≡ planOf q → p ≡ plannedFor t q
+  pub planned-given : (p : Planned) → searches t ≡ false → p ≡ planOf q → p ≡ plannedFor t q
   unfolding plannedFor
-  planned-given p h e = rw (ne-eqb t 1 h, e)
+  planned-given p h e = rw (h, e)
 
 module _ (p : Plan) (x : Costed) (e : x ≡ costOf p) where
   pub costed-refused : {r : Refusal} → x .verdict ≡ Refused r → refusedWith (x .verdict) ≡ costedFor p
@@ -34,10 +39,28 @@ module _ (p : Plan) (x : Costed) (e : x ≡ costOf p) where
   costed-fine h = rw (← e, h)
 
 module _ (t : ℕ) (q : Query) (x : Planned) (e : x ≡ plannedFor t q) where
-  pub answer-refused : {r : Refusal} → x .verdict ≡ Refused r → refusedWith (x .verdict) ≡ answerWith t q
-  unfolding answerWith
-  answer-refused h = rw (← e, h)
+  pub with-cost-refused : {r : Refusal} → x .verdict ≡ Refused r → refusedWith (x .verdict) ≡ plannedWithCost t q
+  unfolding plannedWithCost
+  with-cost-refused h = rw (← e, h)
 
-  pub answer-fine : x .verdict ≡ Fine → costedFor (x .plan) ≡ answerWith t q
-  unfolding answerWith
-  answer-fine h = rw (← e, h)
+  pub with-cost-fine : x .verdict ≡ Fine → costedFor (x .plan) ≡ plannedWithCost t q
+  unfolding plannedWithCost
+  with-cost-fine h = rw (← e, h)
+
+module _ (t : ℕ) (q : Query) (types : List ℕ) where
+  pub types-unasked : checksTypes t ≡ false → Fine ≡ typesAsked t q types
+  unfolding typesAsked
+  types-unasked h = rw h
+
+  pub types-checked : (x : Inferred) → checksTypes t ≡ true → x ≡ inferredOf q types → x .verdict ≡ typesAsked t q types
+  unfolding typesAsked
+  types-checked x h e = rw (h, e)
+
+  module _ (v : Verdict) (e : v ≡ typesAsked t q types) where
+    pub answer-refused : {r : Refusal} → v ≡ Refused r → refusedWith v ≡ answerWith t q types
+    unfolding answerWith
+    answer-refused h = rw (← e, h)
+
+    pub answer-fine : v ≡ Fine → plannedWithCost t q ≡ answerWith t q types
+    unfolding answerWith
+    answer-fine h = rw (← e, h)

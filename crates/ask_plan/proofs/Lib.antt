@@ -1,3 +1,4 @@
 pub mod Cases
+pub mod Typed
 pub mod Sized
 pub mod OneAnswer

@@ -4,7 +4,7 @@ use Prim.Native.Nat.{ℕ}
 use mathlib.Core.Bool.{Bool, true, false, cond}
 use mathlib.Core.List.{List, [], _∷_, map}
 use lib.ListN.{length, getD, length-replicate}
-use lib.Dec.{eqb, ltb}
+use lib.Dec.{ltb}
 use Rattle.capacity.specs.Capacity.{maxSelects, maxSearched}
 use Rattle.refusal.specs.declared.Verdict.{Verdict}
 use Rattle.refusal.specs.declared.Verdict.the-variants.{Fine, Refused}
@@ -23,9 +23,10 @@ use Rattle.planner.specs.Planning.{slotOf, planFor, planOf}
 use Rattle.search.specs.declared.Found.{Found}
 use Rattle.search.specs.Search.{Candidate, orders, candidates, notFound, firstLeast, searchOf}
 use Rattle.cost.specs.Cost.{costOf}
+use Rattle.ask_question.specs.Parts.{partsOf, itemsOf}
 use Rattle.ask_question.specs.Asked.{queryOf}
 use Rattle.ask_plan.specs.declared.Answer.{Answer}
-use Rattle.ask_plan.specs.Answer.{refusedWith, plannedFor, costedFor, answerWith, answerOf}
+use Rattle.ask_plan.specs.Answer.{refusedWith, searches, plannedFor, costedFor, plannedWithCost, typesAsked, answerWith, answerOf}
 
 -- a plan whose array of selects has the full length
 abbrev Sized : Plan → Type 0
@@ -63,7 +64,7 @@ found-sized q =
 
 planned-sized : (task : ℕ) (q : Query) → Sized (plannedFor task q .plan)
 unfolding plannedFor
-planned-sized task q = by-cases (eqb task 1)
+planned-sized task q = by-cases (searches task)
   where
     by-cases : (t : Bool) → Sized (cond {A = Planned} t (record { verdict = searchOf q .verdict; plan = searchOf q .plan }) (planOf q) .plan)
     by-cases true = found-sized q
@@ -73,10 +74,17 @@ either-sized : (v : Verdict) (a : Answer) → Sized (a .plan) → Sized (unless 
 either-sized Fine a h = h
 either-sized (Refused r) a h = empty-sized
 
-pub answer-sized : (ws : List ℕ) → Sized (answerOf ws .plan)
-unfolding answerWith costedFor
-answer-sized ws =
-    let planned = plannedFor (getD ws 0 0) (queryOf ws) in
+with-cost-sized : (task : ℕ) (q : Query) → Sized (plannedWithCost task q .plan)
+unfolding plannedWithCost costedFor
+with-cost-sized task q =
+    let planned = plannedFor task q in
     let p = planned .plan in
     either-sized (planned .verdict) (costedFor p)
-    (either-sized (costOf p .verdict) (record { verdict = Fine; plan = p; cost = costOf p .cost }) (planned-sized (getD ws 0 0) (queryOf ws)))
+    (either-sized (costOf p .verdict) (record { verdict = Fine; plan = p; cost = costOf p .cost }) (planned-sized task q))
+
+pub answer-sized : (ws : List ℕ) → Sized (answerOf ws .plan)
+unfolding answerWith
+answer-sized ws =
+    let task = getD ws 0 0 in
+    let q = queryOf ws in
+    either-sized (typesAsked task q (itemsOf ws (partsOf ws .types))) (plannedWithCost task q) (with-cost-sized task q)

@@ -12,7 +12,7 @@ use lib.Dec.{leb}
 use borrow.Author.Tests.{leb-true, lt-leb, le-leb, lt-ltb, le-ltb}
 use Rattle.ask_question.specs.declared.Part.{Part}
 use Rattle.ask_question.specs.declared.Parts.{Parts}
-use Rattle.ask_question.specs.Parts.{noPart, partFrom, partAt, partsOf, itemsOf, areKinds, areBytes, insideWith}
+use Rattle.ask_question.specs.Parts.{noPart, partFrom, partAt, checksTypes, leftOut, typesAt, partsOf, itemsOf, areKinds, areBytes, insideWith}
 
 module _ (ws : List ℕ) (at width : ℕ) where
   pub part-past : length ws ≤ at → noPart (length ws) ≡ partAt ws at width
@@ -31,12 +31,22 @@ module _ (ws : List ℕ) (at width : ℕ) where
     unfolding partAt
     part-there s = rw (lt-ltb at (length ws) h, le-leb (getD ws at 0 * width) (length ws - (at + 1)) (part-fits s))
 
+-- the table of types is there only where the task has types checked
+module _ (ws : List ℕ) (at task : ℕ) (e : task ≡ getD ws 0 0) where
+  pub types-left-out : checksTypes task ≡ false → leftOut at ≡ typesAt ws at
+  unfolding typesAt
+  types-left-out h = rw (← e, h)
+
+  pub types-there : checksTypes task ≡ true → partAt ws at 1 ≡ typesAt ws at
+  unfolding typesAt
+  types-there h = rw (← e, h)
+
 -- each part is found where the one before it ends
-pub parts-are : (ws : List ℕ) (s t n e a b c : Part) → s ≡ partAt ws 4 4 → t ≡ partAt ws (s .next) 1 → n ≡ partAt ws (t .next) 1
-    → e ≡ partAt ws (n .next) 1 → a ≡ partAt ws (e .next) 1 → b ≡ partAt ws (a .next) 1 → c ≡ partAt ws (b .next) 1
-    → _≡_ {A = Parts} (record { statements = s; selects = t; names = n; ends = e; aevt = a; avet = b; eavt = c }) (partsOf ws)
+pub parts-are : (ws : List ℕ) (s t n e y a b c : Part) → s ≡ partAt ws 4 4 → t ≡ partAt ws (s .next) 1 → n ≡ partAt ws (t .next) 1
+    → e ≡ partAt ws (n .next) 1 → y ≡ typesAt ws (e .next) → a ≡ partAt ws (y .next) 1 → b ≡ partAt ws (a .next) 1 → c ≡ partAt ws (b .next) 1
+    → _≡_ {A = Parts} (record { statements = s; selects = t; names = n; ends = e; types = y; aevt = a; avet = b; eavt = c }) (partsOf ws)
 unfolding partsOf
-parts-are ws s t n e a b c p q r u v w x = rw (x, w, v, u, r, q, p)
+parts-are ws s t n e y a b c p q r u d v w x = rw (x, w, v, d, u, r, q, p)
 
 -- words from a place on
 module _ (ws : List ℕ) (at count : ℕ) where
@@ -121,15 +131,15 @@ module _ (ws : List ℕ) (p : Parts) where
     outside-more h = rw (parts, lt-leb (length ws) (p .eavt .next) h)
 
     module _ (whole : length ws ≤ p .eavt .next) where
-      pub outside-task : 1 < getD ws 0 0 → false ≡ insideWith ws p
+      pub outside-task : 3 < getD ws 0 0 → false ≡ insideWith ws p
       unfolding insideWith
-      outside-task h = rw (parts, le-leb (length ws) (p .eavt .next) whole, lt-leb (getD ws 0 0) 1 h)
+      outside-task h = rw (parts, le-leb (length ws) (p .eavt .next) whole, lt-leb (getD ws 0 0) 3 h)
 
-      module _ (task : getD ws 0 0 ≤ 1) where
+      module _ (task : getD ws 0 0 ≤ 3) where
         pub outside-kinds : areKinds (itemsOf ws (p .statements)) ≡ false → false ≡ insideWith ws p
         unfolding insideWith
-        outside-kinds h = rw (parts, le-leb (length ws) (p .eavt .next) whole, le-leb (getD ws 0 0) 1 task, h)
+        outside-kinds h = rw (parts, le-leb (length ws) (p .eavt .next) whole, le-leb (getD ws 0 0) 3 task, h)
 
         pub inside-bytes : areKinds (itemsOf ws (p .statements)) ≡ true → areBytes (itemsOf ws (p .names)) ≡ insideWith ws p
         unfolding insideWith
-        inside-bytes h = rw (parts, le-leb (length ws) (p .eavt .next) whole, le-leb (getD ws 0 0) 1 task, h)
+        inside-bytes h = rw (parts, le-leb (length ws) (p .eavt .next) whole, le-leb (getD ws 0 0) 3 task, h)

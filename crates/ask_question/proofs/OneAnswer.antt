@@ -7,7 +7,7 @@ use lib.ListN.{length, getD}
 use Rattle.query.specs.declared.Query.{Query}
 use Rattle.ask_question.specs.declared.Part.{Part}
 use Rattle.ask_question.specs.declared.Parts.{Parts}
-use Rattle.ask_question.specs.Parts.{partsOf, itemsOf, insideWith}
+use Rattle.ask_question.specs.Parts.{checksTypes, partsOf, itemsOf, insideWith}
 use Rattle.ask_question.specs.Asked.{queryWith, bytesFit, bytesAfter, endsAfter, endsCount}
 
 -- `is_inside`
@@ -17,6 +17,10 @@ is-inside-one ws ps e f = e ∙ sym f
 -- `find_parts`
 pub find-parts-one : (ws : List ℕ) {r s : Parts} → r ≡ partsOf ws → s ≡ partsOf ws → r ≡ s
 find-parts-one ws e f = e ∙ sym f
+
+-- `checks_types`
+pub checks-types-one : (task : ℕ) {r s : Bool} → r ≡ checksTypes task → s ≡ checksTypes task → r ≡ s
+checks-types-one task e f = e ∙ sym f
 
 -- `items`
 pub items-one : (ws : List ℕ) (p : Part) {r s : List ℕ} → r ≡ itemsOf ws p → s ≡ itemsOf ws p → r ≡ s

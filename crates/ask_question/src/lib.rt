@@ -1,5 +1,6 @@
-// What the numbers of the program's input say (docs/LAYOUT.md, "What the numbers say"): a header of four numbers, and seven parts, each
-// a count and then as many items. `find_parts` finds the parts; the functions that read from them are given the parts that were found.
+// What the numbers of the program's input say (docs/LAYOUT.md, "What the numbers say"): a header of four numbers, and eight parts, each
+// a count and then as many items. The table of types is left out, its count too, where the task does not have types checked. `find_parts`
+// finds the parts; the functions that read from them are given the parts that were found.
 use capacity::MAX_SELECTS;
 use capacity::MAX_SLOTS;
 use capacity::MAX_STATEMENTS;
@@ -17,7 +18,7 @@ ghost use mathlib.Core.List.{_++_};
 ghost use Prim.Native.Nat.{_<_, _≤_};
 ghost use lib.ListN.{length, drop, getD};
 ghost use Rattle.capacity.specs.Capacity.{maxStatements};
-ghost use Rattle.ask_question.specs.Parts.{noPart, partAt, partsOf, itemsOf, areKinds, areBytes, insideWith};
+ghost use Rattle.ask_question.specs.Parts.{noPart, partAt, checksTypes, leftOut, typesAt, partsOf, itemsOf, areKinds, areBytes, insideWith};
 ghost use Rattle.ask_question.specs.Asked.{askedVar, askedValue, askedStatement, askedStatements, askedSelects, queryWith, bytesFit, bytesAfter, endOf, endsAfter, endsCount};
 
 // A part of the input: where its items begin, how many they are, how many words they take, and where the next part begins. One that
@@ -30,12 +31,13 @@ pub struct Part {
     pub next: usize,
 }
 
-// The parts of the input, in their order.
+// The parts of the input, in their order. The tables stand last: as they must hold the same facts, a question that lost its end is noticed.
 pub struct Parts {
     pub statements: Part,
     pub selects: Part,
     pub names: Part,
     pub ends: Part,
+    pub types: Part,
     pub aevt: Part,
     pub avet: Part,
     pub eavt: Part,
@@ -52,10 +54,14 @@ pub const MOST: usize = 3;
 
 const HEADER: usize = 4;
 
-// What to do: plan the statements in the order given, or search.
+// What to do: plan the statements in the order given, or search; or the same once the types of the variables are checked.
 pub const PLAN: u64 = 0;
 
 pub const SEARCH: u64 = 1;
+
+pub const TYPED_PLAN: u64 = 2;
+
+pub const TYPED_SEARCH: u64 = 3;
 
 // The numbers of a statement: entity, attribute, kind and value; the kind is 0 for a variable and 1 for a constant.
 const STATEMENT: usize = 4;
@@ -81,7 +87,7 @@ pub fn is_inside(words: &[u64], parts: Parts) -> bool
     if last.next < words.len() {
         return false;
     }
-    if SEARCH < word_at(words, TASK) {
+    if TYPED_SEARCH < word_at(words, TASK) {
         return false;
     }
     if !are_kinds(items(words, parts.statements)) {
@@ -98,7 +104,8 @@ pub fn find_parts(words: &[u64]) -> Parts
     let selects = part_at(words, statements.next, 1);
     let names = part_at(words, selects.next, 1);
     let ends = part_at(words, names.next, 1);
-    let aevt = part_at(words, ends.next, 1);
+    let types = types_at(words, ends.next);
+    let aevt = part_at(words, types.next, 1);
     let avet = part_at(words, aevt.next, 1);
     let eavt = part_at(words, avet.next, 1);
     Parts {
@@ -106,6 +113,7 @@ pub fn find_parts(words: &[u64]) -> Parts
         selects,
         names,
         ends,
+        types,
         aevt,
         avet,
         eavt,
@@ -133,6 +141,36 @@ fn part_at(words: &[u64], at: usize, width: usize) -> Part
         count,
         length: taken,
         next: start + taken,
+    }
+}
+
+// The table of types, whose count stands at a place; where the task does not have types checked, a part that is left out, so that the next
+// one begins at that place.
+fn types_at(words: &[u64], at: usize) -> Part
+    ensures { λ r. ⌜ r ≡ typesAt (now (words .entry)) at ⌝ }
+{
+    if !checks_types(word_at(words, TASK)) {
+        return left_out(at);
+    }
+    part_at(words, at, 1)
+}
+
+// Whether a task has the types of the variables checked.
+pub fn checks_types(task: u64) -> bool
+    ensures { λ r. ⌜ r ≡ checksTypes task ⌝ }
+{
+    SEARCH < task
+}
+
+fn left_out(at: usize) -> Part
+    ensures { λ r. ⌜ r ≡ leftOut at ⌝ }
+{
+    Part {
+        inside: true,
+        at,
+        count: 0,
+        length: 0,
+        next: at,
     }
 }
 

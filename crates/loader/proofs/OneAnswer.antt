@@ -14,7 +14,7 @@ use Rattle.eval.specs.Evaluation.{evaluateOf, bufferAfter}
 use Rattle.text_names.specs.Names.{selectNameFault}
 use Rattle.plan_text.specs.Answer.{formattedOf, textAfter}
 use Rattle.loader_words.specs.Words.{planOfWords}
-use Rattle.loader.specs.Answers.{numberOf, answerOf, bit, planAfter, steppedAfter, orderAfter, stateAfter, swapAfter, plannedOf, foundOf, steppedOf, swappedOf, evaluatedWords, formattedWords, nameWords}
+use Rattle.loader.specs.Answers.{numberOf, answerOf, bit, planAfter, steppedAfter, orderAfter, typesAfter, stateAfter, swapAfter, plannedOf, foundOf, typedOf, steppedOf, swappedOf, evaluatedWords, formattedWords, nameWords}
 
 -- a call returns r and leaves a in its answer; and b in a buffer; and c in another
 abbrev Answers : ℕ → List ℕ → ℕ → List ℕ → Type 0
@@ -63,6 +63,12 @@ module _ (r r′ : ℕ) (a a′ : List ℕ) where
         let says = Writes (numberOf (planned .verdict)) (answerOf (planned .verdict) 0 0) (planAfter (planned .verdict) (planned .plan) plan) in
         says r a b → says r′ a′ b′ → (r ≡ r′) × (a ≡ a′) × (b ≡ b′)
     loader-plan-one query plan = writes-one _ _ _ r r′ a a′ b b′
+
+    pub loader-types-one : (query table types : List ℕ) →
+        let typed = typedOf query table in
+        let says = Writes (numberOf (typed .verdict)) (answerOf (typed .verdict) 0 0) (typesAfter typed types) in
+        says r a b → says r′ a′ b′ → (r ≡ r′) × (a ≡ a′) × (b ≡ b′)
+    loader-types-one query table types = writes-one _ _ _ r r′ a a′ b b′
 
     pub loader-next-one : (plan : List ℕ) →
         let stepped = steppedOf plan in

@@ -1,4 +1,4 @@
--- How an answer stands in four words, and what the words of a plan, an order or a swap state hold after a call.
+-- How an answer stands in four words, and what the words of a plan, an order, types or a swap state hold after a call.
 use Prim.Native.Nat.{ℕ}
 use mathlib.Core.Bool.{Bool, true, false}
 use mathlib.Core.List.{List, [], _∷_}
@@ -19,6 +19,8 @@ use Rattle.planner.specs.declared.Planned.{Planned}
 use Rattle.planner.specs.Planning.{planOf}
 use Rattle.search.specs.declared.Found.{Found}
 use Rattle.search.specs.Search.{searchOf}
+use Rattle.types.specs.declared.Inferred.{Inferred}
+use Rattle.types.specs.Types.{inferredOf}
 use Rattle.listing.specs.declared.NextPlan.{NextPlan}
 use Rattle.listing.specs.Next.{nextPlanOf}
 use Rattle.eval.specs.declared.Evaluated.{Evaluated}
@@ -55,6 +57,10 @@ steppedAfter n before = unless (n .verdict) (λ _. before) (withIndexes (scansOf
 abbrev pub orderAfter : Verdict → List ℕ → List ℕ → List ℕ
 orderAfter v order before = unless v (λ _. before) order
 
+-- the types of the variables, in the same way
+abbrev pub typesAfter : Inferred → List ℕ → List ℕ
+typesAfter i before = unless (i .verdict) (λ _. before) (i .types)
+
 -- a swap state's words and the two positions of a swap, in the same way
 abbrev pub stateAfter : Verdict → Permutations → List ℕ → List ℕ
 stateAfter v s before = unless v (λ _. before) (wordsOfState s)
@@ -62,12 +68,15 @@ stateAfter v s before = unless v (λ _. before) (wordsOfState s)
 abbrev pub swapAfter : Verdict → Swap → List ℕ → List ℕ
 swapAfter v w before = unless v (λ _. before) (w .0 ∷ w .1 ∷ [])
 
--- what planning, the search, `next` of plans and `next` of swaps answer of what words say
+-- what planning, the search, type inference, `next` of plans and `next` of swaps answer of what words say
 abbrev pub plannedOf : List ℕ → Planned
 plannedOf query = planOf (queryOfWords query)
 
 abbrev pub foundOf : List ℕ → Found
 foundOf query = searchOf (queryOfWords query)
+
+abbrev pub typedOf : List ℕ → List ℕ → Inferred
+typedOf query table = inferredOf (queryOfWords query) table
 
 abbrev pub steppedOf : List ℕ → NextPlan
 steppedOf plan = nextPlanOf (planOfWords plan)

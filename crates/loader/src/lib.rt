@@ -5,6 +5,7 @@
 // the number, the place, and two more that each call names (0 where it has none, or where it is refused). A refused call writes
 // nothing else.
 use capacity::MAX_SEARCHED;
+use capacity::MAX_SLOTS;
 use loader_swap_words::STATE_WORDS;
 use loader_words::PLAN_WORDS;
 use loader_words::QUERY_WORDS;
@@ -21,7 +22,7 @@ ghost use Rattle.text_names.specs.Names.{selectNameFault};
 ghost use Rattle.plan_text.specs.Answer.{formattedOf, textAfter};
 ghost use Rattle.permutation.specs.Swaps.{freshOf};
 ghost use Rattle.loader_words.specs.Words.{planOfWords};
-ghost use Rattle.loader.specs.Answers.{numberOf, placeOf, answerOf, bit, planAfter, steppedAfter, orderAfter, stateAfter, swapAfter, plannedOf, foundOf, steppedOf, swappedOf, evaluatedWords, formattedWords, nameWords};
+ghost use Rattle.loader.specs.Answers.{numberOf, placeOf, answerOf, bit, planAfter, steppedAfter, orderAfter, typesAfter, stateAfter, swapAfter, plannedOf, foundOf, typedOf, steppedOf, swappedOf, evaluatedWords, formattedWords, nameWords};
 
 // Where each part of an answer stands, and how many words it has.
 const ANSWER_NUMBER: usize = 0;
@@ -82,6 +83,30 @@ pub extern "C" fn loader_search(
     let arranged = found.order;
     *order = arranged;
     *plan = loader_plan_words::words_of_plan(cheapest);
+    0
+}
+
+// The type of every variable of a query, by a table of (attribute, type). Refusals 10 to 16, 50 to 52.
+#[no_mangle]
+pub extern "C" fn loader_types(
+    query: &[u64; QUERY_WORDS],
+    table: &[u64],
+    types: &mut [u64; MAX_SLOTS],
+    answer: &mut [u64; ANSWER_WORDS],
+) -> u64
+    ensures { λ r. ⌜ r ≡ numberOf (typedOf (now (query .entry)) (now (table .entry)) .verdict) ⌝ }
+    ensures { λ r. ⌜ now (answer .exit) ≡ answerOf (typedOf (now (query .entry)) (now (table .entry)) .verdict) 0 0 ⌝ }
+    ensures { λ r. ⌜ now (types .exit) ≡ typesAfter (typedOf (now (query .entry)) (now (table .entry))) (now (types .entry)) ⌝ }
+{
+    let read = loader_words::read_query(query);
+    let inferred = types::infer_types(read, table);
+    let verdict = inferred.verdict;
+    *answer = answer_of(verdict, 0, 0);
+    if let Verdict::Refused(_) = verdict {
+        return number_of(verdict);
+    }
+    let found = inferred.types;
+    *types = found;
     0
 }
 

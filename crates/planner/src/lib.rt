@@ -40,6 +40,7 @@ ghost use Rattle.lists.specs.Padded.{padded};
 ghost use Rattle.query_check.specs.Refusals.{constantsIn};
 ghost use Rattle.query_check.specs.Below.{ValueBelow, Below};
 ghost use Rattle.plan.specs.Plan.{zeroSlot, variableSlot};
+ghost use Rattle.planner.specs.Refusals.{planFault};
 ghost use Rattle.planner.specs.Planning.{slotOf, valueSlot, scanFor, slotsFor, notInitialized, initializedOf, planOf};
 ghost use Rattle.planner.specs.Record.{Plannable, isValueSetIn, bindsTwiceIn, scanIn, statementRecord, constantIn};
 
@@ -94,6 +95,14 @@ pub fn plan(query: Query) -> Planned
         select_count,
     };
     Planned { verdict, plan }
+}
+
+// Whether the query can be planned in the given order, or the first of 10 to 16.
+pub fn check_plannable(query: Query) -> Verdict
+    ensures { λ r. ⌜ r ≡ planFault query ⌝ }
+{
+    let planned = plan(query);
+    planned.verdict
 }
 
 // Generate the initial scans to implement the query: a scan for every statement.

@@ -76,3 +76,10 @@ pub const TEXT_TOO_SHORT: u8 = 31;
 
 // Swaps.
 pub const TOO_MANY_ELEMENTS: u8 = 40;
+
+// Types.
+pub const TYPE_TABLE: u8 = 50;
+
+pub const NO_SUCH_ATTRIBUTE: u8 = 51;
+
+pub const TYPE_CLASH: u8 = 52;

@@ -12,6 +12,7 @@ use replay_plans::queries;
 use replay_plans::searches;
 use replay_plans::swaps;
 use replay_plans::texts;
+use replay_plans::typed;
 ghost use mathlib.Core.Path.{_≡_};
 ghost use lib.ListN.{length};
 ghost use Rattle.replay.specs.Capacity.{textBytes};
@@ -35,6 +36,8 @@ const TABLES: u64 = 6;
 const PLAN_PARTS: u64 = 7;
 
 const QUERY_CHECKS: u64 = 8;
+
+const TYPES: u64 = 9;
 
 fn main() {
     let mut text = text_buffer();
@@ -78,6 +81,7 @@ fn put_case(text: &[u8], start: usize) -> usize {
         TABLES => over_tables::put_case(text, next),
         PLAN_PARTS => plans::put_parts(text, next),
         QUERY_CHECKS => queries::put_check(text, next),
+        TYPES => typed::put_case(text, next),
         _ => put_unknown(start),
     }
 }

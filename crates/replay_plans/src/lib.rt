@@ -1,7 +1,8 @@
 // The cases of `replay` that want no tables, a module for each kind (docs/REPLAY.md): the swaps, plans and their parts, the text of a
-// plan, queries planned, checked and searched.
+// plan, queries planned, checked, searched and typed.
 pub mod plans;
 pub mod queries;
 pub mod searches;
 pub mod swaps;
 pub mod texts;
+pub mod typed;

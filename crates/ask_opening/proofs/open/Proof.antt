@@ -12,22 +12,22 @@ returns c = opens-as (said-outside _ _ (sym (c .before .before .before .before .
 returns-2 : tie.Need-returns-2
 returns-2 c =
     let planned = c .before .before .before .before .before .before in
-    let asked = planned .before .before .before in
+    let asked = planned .before .before .before .before in
     let found = asked .before .before in
-    let answer = answer-asked _ _ (found .find-parts .ensures) _ _ _ (planned .before .word-at .ensures) (planned .before .before .read-query .ensures) (planned .plan-asked .ensures) in
+    let answer = answer-asked _ _ (found .find-parts .ensures) _ _ _ _ (planned .before .before .word-at .ensures) (planned .before .before .before .read-query .ensures) (planned .before .items .ensures) (planned .plan-asked .ensures) in
     opens-as (said-refused _ _ (sym (asked .before .is-question .ensures) ∙ not-false _ (asked .if1 .left)) _ answer (c .before .before .before .before .enum-told .given .1)) (c .before .before .say-refusal .ensures)
 
 open-planned-requires : tie.Need-open-planned-requires
 open-planned-requires c κs =
-    let asked = c .before .before .before .before .before .before .before in
+    let asked = c .before .before .before .before .before .before .before .before in
     (asked .before .before .find-parts .ensures, sym (asked .before .is-question .ensures) ∙ not-false _ (asked .if1 .left))
 
 returns-3 : tie.Need-returns-3
 returns-3 c =
     let planned = c .before .before .before .before .before .before .before in
-    let asked = planned .before .before .before in
+    let asked = planned .before .before .before .before in
     let found = asked .before .before in
-    let answer = answer-asked _ _ (found .find-parts .ensures) _ _ _ (planned .before .word-at .ensures) (planned .before .before .read-query .ensures) (planned .plan-asked .ensures) in
+    let answer = answer-asked _ _ (found .find-parts .ensures) _ _ _ _ (planned .before .before .word-at .ensures) (planned .before .before .before .read-query .ensures) (planned .before .items .ensures) (planned .plan-asked .ensures) in
     opens-as (said-planned _ _ (sym (asked .before .is-question .ensures) ∙ not-false _ (asked .if1 .left)) _ answer (c .before .before .before .before .before .enum-told2 .given .1)) (c .before .before .open-planned .ensures)
 
 pub open-spec : {M : Type 1} → statement M
@@ -39,6 +39,7 @@ open-spec =
     (λ c κs. search needs)
     (λ c. search needs)
     returns
+    (λ c κs. search needs)
     (λ c κs. search needs)
     (λ c κs. search needs)
     (λ c κs. search needs)

@@ -1,4 +1,4 @@
--- `plan_asked` meets its contract: planning is refused, or the plan has its cost.
+-- `plan_asked` meets its contract: the types are refused, or the query is planned.
 use mathlib.Core.Path.{_∙_}
 use Rattle.ask_plan.proofs.Cases.{answer-refused, answer-fine}
 use borrow.Author.Needs.{needs}
@@ -12,9 +12,7 @@ plan-asked-spec =
     (λ c κs. search needs)
     (λ c. search needs)
     (λ c κs. search needs)
-    (λ c. c .none .ensures ∙ answer-refused _ _ _ (c .before .before .before .plan-for .ensures) (c .before .enum-told .given .1))
+    (λ c. c .none .ensures ∙ answer-refused _ _ _ _ (c .before .before .before .check-types .ensures) (c .before .enum-told .given .1))
     (λ c. search needs)
     (λ c κs. search needs)
-    (λ c.
-    let t = c .before .before in
-    c .with-cost .ensures ∙ answer-fine _ _ _ (t .before .before .plan-for .ensures) (t .enum-told2 .given .1)))
+    (λ c. c .plan-with-cost .ensures ∙ answer-fine _ _ _ _ (c .before .before .before .check-types .ensures) (c .before .enum-told2 .given .1)))

@@ -15,12 +15,14 @@ find-parts-spec =
     (λ c κs. search needs)
     (λ c κs. search needs)
     (λ c κs. search needs)
+    (λ c κs. search needs)
     (λ c.
     let f = c .before in
     let e = f .before in
-    let d = e .before in
+    let y = e .before in
+    let d = y .before in
     let b = d .before in
     let a = b .before in
     let z = a .before in
-    parts-are _ _ _ _ _ _ _ _ (z .part-at .ensures) (a .part-at2 .ensures) (b .part-at3 .ensures) (d .part-at4 .ensures) (e .part-at5 .ensures)
+    parts-are _ _ _ _ _ _ _ _ _ (z .part-at .ensures) (a .part-at2 .ensures) (b .part-at3 .ensures) (d .part-at4 .ensures) (y .types-at .ensures) (e .part-at5 .ensures)
     (f .part-at6 .ensures) (c .part-at7 .ensures)))

@@ -1,0 +1,11 @@
+pub mod Table
+pub mod Given
+pub mod Tracks
+pub mod Begun
+pub mod Variables
+pub mod Answer
+pub mod OneAnswer
+pub mod Fitting
+pub mod Stopped
+pub mod Numbers
+pub mod Meaning
