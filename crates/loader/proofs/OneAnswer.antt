@@ -4,6 +4,7 @@ use mathlib.Core.Path.{_≡_}
 use mathlib.Core.List.{List}
 use Prim.Native.Nat.{ℕ}
 use lib.ListN.{length}
+use Rattle.refusal.specs.Verdict.{numberOf}
 use Rattle.refusal.proofs.OneAnswer.{one-answer}
 use Rattle.permutation.specs.Swaps.{freshOf}
 use Rattle.cost.specs.Cost.{costOf}
@@ -14,7 +15,7 @@ use Rattle.eval.specs.Evaluation.{evaluateOf, bufferAfter}
 use Rattle.text_names.specs.Names.{selectNameFault}
 use Rattle.plan_text.specs.Answer.{formattedOf, textAfter}
 use Rattle.loader_words.specs.Words.{planOfWords}
-use Rattle.loader.specs.Answers.{numberOf, answerOf, bit, planAfter, steppedAfter, orderAfter, typesAfter, stateAfter, swapAfter, plannedOf, foundOf, typedOf, steppedOf, swappedOf, evaluatedWords, formattedWords, nameWords}
+use Rattle.loader.specs.Answers.{answerOf, bit, planAfter, steppedAfter, orderAfter, typesAfter, stateAfter, swapAfter, plannedOf, foundOf, typedOf, steppedOf, swappedOf, evaluatedWords, formattedWords, nameWords}
 
 -- a call returns r and leaves a in its answer; and b in a buffer; and c in another
 abbrev Answers : ℕ → List ℕ → ℕ → List ℕ → Type 0

@@ -4,8 +4,7 @@ use mathlib.Core.Bool.{Bool, true, false}
 use mathlib.Core.List.{List, [], _∷_}
 use lib.ListN.{length}
 use Rattle.refusal.specs.declared.Verdict.{Verdict}
-use Rattle.refusal.specs.declared.Verdict.the-variants.{Fine, Refused}
-use Rattle.refusal.specs.Verdict.{unless}
+use Rattle.refusal.specs.Verdict.{numberOf, placeOf, unless}
 use Rattle.plan.specs.declared.Plan.{Plan}
 use Rattle.plan.specs.Plan.{scansOf}
 use Rattle.permutation.specs.declared.Permutations.{Permutations}
@@ -26,15 +25,6 @@ use Rattle.listing.specs.Next.{nextPlanOf}
 use Rattle.eval.specs.declared.Evaluated.{Evaluated}
 use Rattle.text_names.specs.Names.{selectNameFault, selectNameOf}
 use Rattle.plan_text.specs.declared.Formatted.{Formatted}
-
--- the number of a refusal, 0 where there is none; its place
-abbrev pub numberOf : Verdict → ℕ
-numberOf Fine = 0
-numberOf (Refused r) = r .number
-
-abbrev pub placeOf : Verdict → ℕ
-placeOf Fine = 0
-placeOf (Refused r) = r .place
 
 -- number, place, and what else the call answers
 abbrev pub answerOf : Verdict → ℕ → ℕ → List ℕ

@@ -18,11 +18,12 @@ ghost use Rattle.cost.specs.Cost.{costOf};
 ghost use Rattle.plan_check.specs.Check.{checkOf};
 ghost use Rattle.tables.specs.Check.{tablesFault};
 ghost use Rattle.eval.specs.Evaluation.{evaluateOf, bufferAfter};
+ghost use Rattle.refusal.specs.Verdict.{numberOf, placeOf};
 ghost use Rattle.text_names.specs.Names.{selectNameFault};
 ghost use Rattle.plan_text.specs.Answer.{formattedOf, textAfter};
 ghost use Rattle.permutation.specs.Swaps.{freshOf};
 ghost use Rattle.loader_words.specs.Words.{planOfWords};
-ghost use Rattle.loader.specs.Answers.{numberOf, placeOf, answerOf, bit, planAfter, steppedAfter, orderAfter, typesAfter, stateAfter, swapAfter, plannedOf, foundOf, typedOf, steppedOf, swappedOf, evaluatedWords, formattedWords, nameWords};
+ghost use Rattle.loader.specs.Answers.{answerOf, bit, planAfter, steppedAfter, orderAfter, typesAfter, stateAfter, swapAfter, plannedOf, foundOf, typedOf, steppedOf, swappedOf, evaluatedWords, formattedWords, nameWords};
 
 // Where each part of an answer stands, and how many words it has.
 const ANSWER_NUMBER: usize = 0;

@@ -15,7 +15,6 @@ pub mod Weighs
 pub mod Cheapest
 pub mod Demand
 pub mod SameRows
-pub mod Numbers
 pub mod Reasons
 pub mod Searched
 pub mod Entries

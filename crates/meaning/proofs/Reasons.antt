@@ -15,7 +15,7 @@ use Rattle.lists.proofs.Span.{length-span, getD-span}
 use Rattle.capacity.specs.Capacity.{maxStatements, maxSlots, maxSelects}
 use Rattle.refusal.specs.declared.Verdict.{Verdict}
 use Rattle.refusal.specs.declared.Verdict.the-variants.{Fine, Refused}
-use Rattle.refusal.specs.Verdict.{refused, refuseIf, unless}
+use Rattle.refusal.specs.Verdict.{refused, refuseIf, numberOf, unless}
 use Rattle.refusal.proofs.Fine.{or-fine}
 use Rattle.refusal.proofs.First.{Fails, each-passes}
 use Rattle.query.specs.declared.Var.{Var}
@@ -32,10 +32,10 @@ use Rattle.planner.specs.Planning.{planFor, planOf}
 use Rattle.planner.proofs.Accepted.{query-fits}
 use Rattle.planned.proofs.Places.{selects-below, all-named}
 use Rattle.planned.proofs.Passes.{either-verdict}
-use Rattle.meaning.specs.Reasons.{HighStatement, HighSelect, Unnamed, QueryReason, over-statements, over-slots, over-selects, no-selects, high-statement, high-select, unused, queryRefusal, PlanReason, of-query, new-twice, planRefusal, numberOf, PlanningExplained}
+use Rattle.meaning.specs.Reasons.{HighStatement, HighSelect, Unnamed, QueryReason, over-statements, over-slots, over-selects, no-selects, high-statement, high-select, unused, queryRefusal, PlanReason, of-query, new-twice, planRefusal, PlanningExplained}
 use Rattle.meaning.proofs.Parts.{parts}
 use Rattle.meaning.proofs.Sound.{bound-explained, bound-sound}
-use Rattle.meaning.proofs.Numbers.{if-within, or-within, or-first, if-first, first-within, bound-within, capacity-within, query-within}
+use Rattle.planner.proofs.Numbers.{if-within, or-within, or-first, if-first, first-within, bound-within, capacity-within, query-within}
 use Rattle.meaning.proofs.Explained.{Explained, or-explained, if-explained, first-explained, high-names, names-high}
 
 module _ (q : Query) where

@@ -10,7 +10,7 @@ use Rattle.capacity.specs.Capacity.{maxStatements, maxSelects, maxSearched}
 use Rattle.refusal.specs.declared.Refusal.{Refusal}
 use Rattle.refusal.specs.declared.Verdict.{Verdict}
 use Rattle.refusal.specs.declared.Verdict.the-variants.{Fine, Refused}
-use Rattle.refusal.specs.Verdict.{refuseIf, orElse}
+use Rattle.refusal.specs.Verdict.{refuseIf, numberOf, orElse}
 use Rattle.refusal.proofs.Fine.{refuse-fine, or-fine}
 use Rattle.query.specs.declared.Query.{Query}
 use Rattle.query_check.specs.Refusals.{queryFault}
@@ -18,9 +18,9 @@ use Rattle.query_check.specs.Clear.{Clear}
 use Rattle.search.specs.declared.Found.{Found}
 use Rattle.search.specs.Search.{notFound, searchOf}
 use Rattle.meaning.specs.Demand.{FirstOfLeast}
-use Rattle.meaning.specs.Reasons.{SearchReason, of-query, over-searched, no-sound-order, searchRefusal, numberOf, SearchExplained}
+use Rattle.meaning.specs.Reasons.{SearchReason, of-query, over-searched, no-sound-order, searchRefusal, SearchExplained}
 use Rattle.meaning.proofs.Explained.{Explained, or-explained, if-explained}
-use Rattle.meaning.proofs.Numbers.{if-within, or-within, or-first, query-within}
+use Rattle.planner.proofs.Numbers.{if-within, or-within, or-first, query-within}
 use Rattle.meaning.proofs.Reasons.{query-explained, query-sound, query-first}
 use Rattle.meaning.proofs.Demand.{search-demanded}
 

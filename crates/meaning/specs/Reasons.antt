@@ -7,8 +7,8 @@ use mathlib.Core.Bool.{true, false}
 use lib.ListN.{length, getD}
 use Rattle.capacity.specs.Capacity.{maxStatements, maxSlots, maxSelects, maxSearched}
 use Rattle.refusal.specs.declared.Verdict.{Verdict}
-use Rattle.refusal.specs.declared.Verdict.the-variants.{Fine, Refused}
-use Rattle.refusal.specs.Verdict.{refused, Lowest}
+use Rattle.refusal.specs.declared.Verdict.the-variants.{Fine}
+use Rattle.refusal.specs.Verdict.{refused, numberOf, Lowest}
 use Rattle.query.specs.declared.Query.{Query}
 use Rattle.query.specs.Query.{statementsOf, selectsOf, names, named, zeroVar, zeroStatement}
 use Rattle.query_check.specs.Refusals.{constants}
@@ -68,11 +68,6 @@ abbrev pub searchRefusal : {q : Query} → SearchReason q → Verdict
 searchRefusal (of-query w) = queryRefusal w
 searchRefusal (over-searched h) = refused 17 0
 searchRefusal (no-sound-order h) = refused 18 0
-
--- the number of a refusal; 0 where there is none
-abbrev pub numberOf : Verdict → ℕ
-numberOf Fine = 0
-numberOf (Refused r) = r .number
 
 -- planning gives a plan, or it refuses for a reason and gives the empty plan; where there is a reason it refuses; and no reason that is true has a
 -- lower number than the one given

@@ -14,6 +14,15 @@ abbrev pub refuseIf : Bool → ℕ → ℕ → Verdict
 refuseIf true n p = refused n p
 refuseIf false n p = Fine
 
+-- a refusal's number and its place; 0 where nothing is refused
+abbrev pub numberOf : Verdict → ℕ
+numberOf Fine = 0
+numberOf (Refused r) = r .number
+
+abbrev pub placeOf : Verdict → ℕ
+placeOf Fine = 0
+placeOf (Refused r) = r .place
+
 -- the first refusal of two verdicts: the order of refusals is the text of the definitions that use this
 abbrev pub orElse : Verdict → Verdict → Verdict
 orElse Fine v = v

@@ -7,5 +7,4 @@ pub mod Answer
 pub mod OneAnswer
 pub mod Fitting
 pub mod Stopped
-pub mod Numbers
 pub mod Meaning

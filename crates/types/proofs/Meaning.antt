@@ -14,7 +14,7 @@ use Rattle.capacity.specs.Capacity.{maxSlots}
 use Rattle.refusal.specs.declared.Refusal.{Refusal}
 use Rattle.refusal.specs.declared.Verdict.{Verdict}
 use Rattle.refusal.specs.declared.Verdict.the-variants.{Fine, Refused}
-use Rattle.refusal.specs.Verdict.{refused, refuseIf, orElse, unless}
+use Rattle.refusal.specs.Verdict.{refused, refuseIf, numberOf, orElse, unless}
 use Rattle.refusal.proofs.Fine.{refuse-fine, or-fine}
 use Rattle.lists.specs.Tabled.{tabled}
 use Rattle.lists.proofs.Tabled.{tabled-length, tabled-at}
@@ -23,13 +23,13 @@ use Rattle.tables.proofs.Order.{lt-or-ge}
 use Rattle.query.specs.declared.Query.{Query}
 use Rattle.query.specs.Query.{statementsOf, zeroStatement}
 use Rattle.planner.specs.Refusals.{planFault}
+use Rattle.planner.proofs.Numbers.{plan-within}
 use Rattle.types.specs.Types.{isTable, typeGiven, statementsTypeFault, typesFault, notInferred, inferredOf}
 use Rattle.types.specs.Meaning.{TypesFit, CanBeTyped, typesIn, WellTyped, Missing, Clash, TypesDemanded}
 use Rattle.types.proofs.Variables.{plannable, given-past, variables-named}
 use Rattle.types.proofs.Answer.{zeros-past}
 use Rattle.types.proofs.Fitting.{fits-same, fits-given, fits-fine, fine-fits}
 use Rattle.types.proofs.Stopped.{numbers-differ, Stopped, stopped, missing-there, clash-unfit}
-use Rattle.types.proofs.Numbers.{AtMost, plan-most}
 
 -- where some verdict is fine or refused, so is the answer
 unless-verdict : (v : Verdict) (types : List ℕ) → unless v notInferred (record { verdict = Fine; types = types }) .verdict ≡ v
@@ -42,7 +42,7 @@ unless-refused Fine types r e = absurd (let z : _≡_ {A = ℕ} 0 1 = cc in omeg
 unless-refused (Refused x) types r e = refl
 
 -- a refusal over 50 is not planning's, and not the table's
-beyond : (a : Verdict) (t : Bool) (b : Verdict) (n i : ℕ) → AtMost 16 a → 50 < n → orElse a (orElse (refuseIf t 50 0) b) ≡ refused n i → b ≡ refused n i
+beyond : (a : Verdict) (t : Bool) (b : Verdict) (n i : ℕ) → numberOf a ≤ 16 → 50 < n → orElse a (orElse (refuseIf t 50 0) b) ≡ refused n i → b ≡ refused n i
 beyond Fine true b n i m h e = numbers-differ _ _ e (λ q. omega arith)
 beyond Fine false b n i m h e = e
 beyond (Refused r) t b n i m h e = numbers-differ _ _ e (λ q. omega arith)
@@ -123,7 +123,7 @@ module _ (q : Query) (table : List ℕ) where
   -- a refusal over 50 is a statement's
   at-statement : (n i : ℕ) → 50 < n → inferredOf q table .verdict ≡ refused n i → Stopped table [] (statementsOf q) 0 (record { number = n; place = i })
   unfolding typesFault
-  at-statement n i h e = stopped table [] (statementsOf q) 0 _ (beyond (planFault q) (not (isTable table)) _ n i (plan-most q) h (sym verdict ∙ e))
+  at-statement n i h e = stopped table [] (statementsOf q) 0 _ (beyond (planFault q) (not (isTable table)) _ n i (plan-within 16 (omega arith) q) h (sym verdict ∙ e))
 
   missing : (i : ℕ) → inferredOf q table .verdict ≡ refused 51 i → Missing q table i
   missing i e =

@@ -8,21 +8,12 @@ use lib.ListN.{length, getD, take}
 use Rattle.refusal.specs.declared.Refusal.{Refusal}
 use Rattle.refusal.specs.declared.Verdict.{Verdict}
 use Rattle.refusal.specs.declared.Verdict.the-variants.{Fine, Refused}
-use Rattle.refusal.specs.Verdict.{refused, refuseIf, orElse}
+use Rattle.refusal.specs.Verdict.{refused, refuseIf, numberOf, placeOf, orElse}
 use Rattle.query.specs.declared.Statement.{Statement}
 use Rattle.query.specs.Query.{zeroStatement}
 use Rattle.types.specs.Types.{isTyped, typeOf, reference, clashes, valueClashes, statementTypeFault, statementsTypeFault}
 use Rattle.types.specs.Meaning.{Assignment, TypesFit}
 use Rattle.types.proofs.Fitting.{fits-entity, fits-value}
-
--- a verdict's number, 0 where it is fine, and its place
-abbrev pub numberOf : Verdict → ℕ
-numberOf Fine = 0
-numberOf (Refused r) = r .number
-
-abbrev placeOf : Verdict → ℕ
-placeOf Fine = 0
-placeOf (Refused r) = r .place
 
 -- no two verdicts of different numbers are one
 pub numbers-differ : {A : Type 0} (v w : Verdict) → v ≡ w → (numberOf v ≡ numberOf w → ⊥) → A

@@ -12,14 +12,7 @@ use lib.Dec.{ltb}
 use Rattle.tables.proofs.Order.{both, lt-or-ge}
 use Rattle.tables.proofs.Search.{Between}
 use Rattle.types.specs.Types.{isTable, isTyped, typeOf}
-use Rattle.types.specs.Record.{foundIn}
-
--- how many rows a table has, and the attribute of row i
-abbrev pub rowCount : List ℕ → ℕ
-rowCount t = length t / 2
-
-abbrev pub attributeAt : List ℕ → ℕ → ℕ
-attributeAt t i = getD t (2 * i) 0
+use Rattle.types.specs.Record.{rowCount, attributeAt, foundIn}
 
 -- it is of even length
 pub table-even : (t : List ℕ) → isTable t ≡ true → length t % 2 ≡ 0

@@ -1,10 +1,10 @@
 -- The types known so far, in arrays: what the private functions ask and keep. proofs/Tracks.antt shows that they hold what the statements so
 -- far give.
 use mathlib.Core.Path.{_≡_}
-use Prim.Native.Nat.{ℕ, _≤_, _<_}
+use Prim.Native.Nat.{ℕ, _*_, _/_, _≤_, _<_}
 use mathlib.Core.List.{List, []}
 use mathlib.Core.Bool.{Bool, true, false, not, cond}
-use lib.ListN.{getD, set}
+use lib.ListN.{length, getD, set}
 use lib.Dec.{eqb}
 use Rattle.capacity.specs.Capacity.{maxStatements, maxSlots}
 use Rattle.refusal.specs.declared.Verdict.{Verdict}
@@ -20,6 +20,16 @@ use Rattle.types.specs.declared.Inferred.{Inferred}
 use Rattle.types.specs.declared.FoundType.{FoundType}
 use Rattle.types.specs.declared.KnownTypes.{KnownTypes}
 use Rattle.types.specs.Types.{isTable, isTyped, typeOf, reference, typeGiven, statementsTypeFault, notInferred}
+
+-- the words of a row, an attribute and its type; how many rows a table has, and the attribute of row i
+abbrev pub rowWords : ℕ
+rowWords = 2
+
+abbrev pub rowCount : List ℕ → ℕ
+rowCount t = length t / rowWords
+
+abbrev pub attributeAt : List ℕ → ℕ → ℕ
+attributeAt t i = getD t (rowWords * i) 0
 
 -- what the checks before leave of the statements and the table
 pub record Typable (count : ℕ) (items : List Statement) (table : List ℕ) : Type 0 where

@@ -19,13 +19,13 @@ use query::Var;
 use refusal::Verdict;
 use refusal::refuse;
 ghost use mathlib.Core.Path.{_≡_};
-ghost use Prim.Native.Nat.{_*_, _<_, _/_};
+ghost use Prim.Native.Nat.{_<_};
 ghost use mathlib.Core.Bool.{true};
-ghost use lib.ListN.{length, getD, take};
+ghost use lib.ListN.{take};
 ghost use Rattle.capacity.specs.Capacity.{maxSlots};
 ghost use Rattle.query_check.specs.Below.{Below};
 ghost use Rattle.types.specs.Types.{isTable, inferredOf, notInferred};
-ghost use Rattle.types.specs.Record.{Typable, foundIn, unifiesIn, withTypeIn, statementTypeFaultIn, withStatementIn, inferredFrom};
+ghost use Rattle.types.specs.Record.{rowCount, attributeAt, Typable, foundIn, unifiesIn, withTypeIn, statementTypeFaultIn, withStatementIn, inferredFrom};
 
 // The type of an entity. Any other number is a type that only the table's author knows.
 pub const REFERENCE: u64 = 0;
@@ -101,8 +101,8 @@ fn is_table(table: &[u64]) -> bool
 
 // The attribute of row i.
 fn attribute_at(table: &[u64], i: usize) -> u64
-    requires { ⌜ i < length (now table) / 2 ⌝ }
-    ensures { λ r. ⌜ r ≡ getD (now (table .entry)) (2 * i) 0 ⌝ }
+    requires { ⌜ i < rowCount (now table) ⌝ }
+    ensures { λ r. ⌜ r ≡ attributeAt (now (table .entry)) i ⌝ }
 {
     table[ROW_WORDS * i]
 }

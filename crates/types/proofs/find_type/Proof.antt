@@ -4,7 +4,8 @@ use Prim.Native.Nat.{_-_}
 use native.Mathlib.Omega.{arith}
 use borrow.Author.Tests.{lt-ltb, le-ltb}
 use Rattle.tables.proofs.Search.{between-start, between-up, between-down}
-use Rattle.types.proofs.Table.{rowCount, Halves, less-falls, found, not-found}
+use Rattle.types.specs.Record.{rowCount}
+use Rattle.types.proofs.Table.{Halves, less-falls, found, not-found}
 use Rattle.types.proofs.find_type.Statement.{statement}
 use Rattle.types.proofs.find_type.Tie as tie
 

@@ -7,7 +7,8 @@ use borrow.Author.Tests.{lt-ltb, le-ltb}
 use lib.ListN.{drop}
 use lib.Dec.{ltb}
 use Rattle.types.specs.Types.{isTable}
-use Rattle.types.proofs.Table.{rowCount, table-odd, table-step, table-last}
+use Rattle.types.specs.Record.{rowCount}
+use Rattle.types.proofs.Table.{table-odd, table-step, table-last}
 use Rattle.types.proofs.is_table.Statement.{statement}
 use Rattle.types.proofs.is_table.Tie as tie
 

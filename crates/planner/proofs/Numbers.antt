@@ -9,13 +9,12 @@ use Rattle.lists.specs.Span.{span}
 use Rattle.capacity.specs.Capacity.{maxStatements, maxSlots, maxSelects}
 use Rattle.refusal.specs.declared.Verdict.{Verdict}
 use Rattle.refusal.specs.declared.Verdict.the-variants.{Fine, Refused}
-use Rattle.refusal.specs.Verdict.{refuseIf, orElse, firstFault, refuseFirst}
+use Rattle.refusal.specs.Verdict.{refuseIf, numberOf, orElse, firstFault, refuseFirst}
 use Rattle.query.specs.declared.Statement.{Statement}
 use Rattle.query.specs.declared.Query.{Query}
 use Rattle.query.specs.Query.{statementsOf, selectsOf}
 use Rattle.query_check.specs.Refusals.{constants, statementsFault, selectsFault, unusedFault, capacityFault, variablesFault, queryFault}
-use Rattle.planner.specs.Refusals.{bindsTwice, boundTwiceFault}
-use Rattle.meaning.specs.Reasons.{numberOf}
+use Rattle.planner.specs.Refusals.{bindsTwice, boundTwiceFault, planFault}
 
 module _ (k : ℕ) where
   pub if-within : (t : Bool) (n p : ℕ) → n ≤ k → numberOf (refuseIf t n p) ≤ k
@@ -61,3 +60,7 @@ module _ (k : ℕ) where
       or-within (capacityFault n m (statementsOf q) (q .select .count)) _ (capacity-within (omega (arith, h)) n m (statementsOf q) (q .select .count))
       (or-within (statementsFault n (statementsOf q) 0) _ (first-within _ 14 (omega (arith, h)) 0 (statementsOf q))
       (or-within (selectsFault n (selectsOf q) m) _ (first-within _ 14 (omega (arith, h)) m (selectsOf q)) (first-within _ 15 h 0 (span 0 n))))
+
+  pub plan-within : 16 ≤ k → (q : Query) → numberOf (planFault q) ≤ k
+  unfolding planFault
+  plan-within h q = or-within (queryFault q) _ (query-within (omega (arith, h)) q) (bound-within h [] (statementsOf q) 0)
