@@ -199,7 +199,7 @@ fn selected_constant() {
 // A constant's line is as compare/printed.rs has it of the Rust, but for the constant.
 fn constant_in_decimal() {
     let plan = case(vec![(1, 1, 0, 5, 1)], vec![(false, 0), (true, 7)], vec![0]);
-    let shown = written(&held::case(TEXTS, &format!("{} 1 120 2 1 1 0 1 48 0", plan_cases::numbers(&plan))));
+    let shown = written(&held::case(TEXTS, &format!("{} 1 120 2 1 1 0 1 60 0", plan_cases::numbers(&plan))));
     assert_eq!(shown, "name fine [x]\ntext fine, length 59 [let :1 = 7\nfor x:0 in avet attribute 5 (value=:1)\nyield x:0~]\n");
 }
 

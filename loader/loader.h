@@ -159,7 +159,7 @@ uint64_t loader_types(const struct loader_query *query, const uint64_t *table, s
    again. The indexes of the scans that count are written; every other word stays, whatever it says. Refusals 20, 21. */
 uint64_t loader_next(struct loader_plan *plan, struct loader_answer *answer);
 
-/* The plan check. Refusals 20, 13, 21 to 26. */
+/* The plan check. Refusals 20, 13, 21 to 26, 29. */
 uint64_t loader_check(const struct loader_plan *plan, struct loader_answer *answer);
 
 /* `first` is the plan's cost. Refusals 20, 21, 27. */
