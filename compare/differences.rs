@@ -199,14 +199,40 @@ fn selected_constant() {
 // A constant's line is as compare/printed.rs has it of the Rust, but for the constant.
 fn constant_in_decimal() {
     let plan = case(vec![(1, 1, 0, 5, 1)], vec![(false, 0), (true, 7)], vec![0]);
-    let shown = written(&held::case(TEXTS, &format!("{} 1 120 2 1 1 0 1 48 0", plan_cases::numbers(&plan))));
-    assert_eq!(shown, "name fine [x]\ntext fine, length 47 [let :1 = 7\nfor x:0 in avet (value=:1)\nyield x:0~]\n");
+    let shown = written(&held::case(TEXTS, &format!("{} 1 120 2 1 1 0 1 60 0", plan_cases::numbers(&plan))));
+    assert_eq!(shown, "name fine [x]\ntext fine, length 59 [let :1 = 7\nfor x:0 in avet attribute 5 (value=:1)\nyield x:0~]\n");
+}
+
+// The text that `replay` writes of a plan, with these names.
+fn text_with(case: &Case, names: &[&str]) -> String {
+    let bytes: Vec<String> = names.concat().bytes().map(|b| b.to_string()).collect();
+    let mut end = 0;
+    let mut ends = Vec::new();
+    for name in names {
+        end += name.len();
+        ends.push(end.to_string());
+    }
+    let numbers = format!("{} {} {} {} {} 0 1 60 0", plan_cases::numbers(case), bytes.len(), bytes.join(" "), ends.len(), ends.join(" "));
+    let shown = written(&held::case(TEXTS, &numbers));
+    shown[shown.find("[").unwrap() + 1..].split("[").last().unwrap().trim_right_matches(|c| c == '~' || c == ']' || c == '\n').to_string()
+}
+
+// 001 prints two plans alike, and names as they are.
+fn told_apart() {
+    let scanned = |attribute| case(vec![(0, 0, 0, attribute, 1)], vec![(false, 0); 2], vec![0]);
+    let by_001 = |plan: &Case, names: [&str; 2]| format!("{:?}", rust_plan(plan, &[names[0].to_string(), names[1].to_string()]));
+    assert_eq!(by_001(&scanned(5), ["", ""]), "for :0, :1 in aevt\nyield :0");
+    assert_eq!(by_001(&scanned(6), ["", ""]), "for :0, :1 in aevt\nyield :0");
+    assert_eq!(text_with(&scanned(5), &["", ""]), "for :0, :1 in aevt attribute 5\nyield :0");
+    assert_eq!(text_with(&scanned(6), &["", ""]), "for :0, :1 in aevt attribute 6\nyield :0");
+    assert_eq!(by_001(&scanned(5), [":,", "b"]), "for :,:0, b:1 in aevt\nyield :,:0");
+    assert_eq!(text_with(&scanned(5), &[":,", "b"]), "for \\3a\\2c:0, b:1 in aevt attribute 5\nyield \\3a\\2c:0");
 }
 
 fn main() {
     // Panics are asked for above: nothing of them is to be seen but their text.
     std::panic::set_hook(Box::new(|_| {}));
-    let all: [(&str, fn()); 9] = [
+    let all: [(&str, fn()); 10] = [
         ("the scan-count test", scan_count),
         ("the largest datom", largest_datom),
         ("next of an out-out eavt scan", next_of_out_out_eavt),
@@ -215,6 +241,7 @@ fn main() {
         ("what 000 plans", planned_by_000),
         ("a selected constant", selected_constant),
         ("a constant's print", constant_in_decimal),
+        ("attributes and names in the text", told_apart),
         ("the rest", the_rest),
     ];
     for &(name, difference) in all.iter() {

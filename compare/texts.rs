@@ -1,7 +1,7 @@
 // Makes cases for crates/replay_plans/src/texts.rt and the answers to them: the text of plans with their names, to buffers of several
-// lengths, and names of selects and slots. The answers are read off document 01 here, independently of the Rattle; wherever all names
-// are UTF-8 the text and the name are held to 001's own `Debug` and `get_select_name` (compare/run says how it is built, with a stand-in
-// for `datom`).
+// lengths, and names of selects and slots. The answers are read off document 01 and 02's Ticket 4 here, independently of the Rattle;
+// wherever all names are UTF-8 the name is held to 001's own `get_select_name`, and the text, its attributes taken out and its escapes
+// read back, to its `Debug` (compare/run says how it is built, with a stand-in for `datom`).
 #[path = "../target/compare/plan.rs"]
 mod plan;
 
@@ -59,11 +59,46 @@ fn name(asked: &Asked, slot: usize) -> &[u8] {
     &asked.names[start..asked.ends[slot] as usize]
 }
 
+// Within a name, a byte outside 33 to 126, a colon, a comma, a round bracket or a backslash is a backslash and two lowercase hex digits.
+fn escaped(name: &[u8]) -> Vec<u8> {
+    let mut out = Vec::new();
+    for byte in name {
+        if *byte < 33 || *byte > 126 || b":,()\\".contains(byte) {
+            out.extend(format!("\\{:02x}", byte).into_bytes());
+        } else {
+            out.push(*byte);
+        }
+    }
+    out
+}
+
+// A text as 001 prints it: no attributes, no escapes. No name has a space or a backslash of its own.
+fn as_001(text: &[u8]) -> Vec<u8> {
+    let mark = b" attribute ";
+    let mut out = Vec::new();
+    let mut rest = text;
+    while let Some(first) = rest.first() {
+        if rest.starts_with(mark) {
+            rest = &rest[mark.len()..];
+            let digits = rest.iter().take_while(|b| **b >= b'0' && **b <= b'9').count();
+            rest = &rest[digits..];
+        } else if *first == b'\\' {
+            let digits = std::str::from_utf8(&rest[1..3]).unwrap();
+            out.push(u8::from_str_radix(digits, 16).unwrap());
+            rest = &rest[3..];
+        } else {
+            out.push(*first);
+            rest = &rest[1..];
+        }
+    }
+    out
+}
+
 // A slot: the name of a variable, a colon, the slot's number.
 fn slot(asked: &Asked, number: usize) -> Vec<u8> {
     let mut out = Vec::new();
     if !asked.case.slots[number].0 {
-        out.extend_from_slice(name(asked, number));
+        out.extend(escaped(name(asked, number)));
     }
     out.extend_from_slice(format!(":{}", number).as_bytes());
     out
@@ -76,7 +111,7 @@ fn whole_text(asked: &Asked) -> Vec<u8> {
         out.extend_from_slice(format!("let :{} = {}\n", i, constant.1).as_bytes());
     }
     for scan in &asked.case.scans {
-        let index = ["aevt", "avet", "eavt"][scan.0];
+        let index = format!("{} attribute {}", ["aevt", "avet", "eavt"][scan.0], scan.3);
         let labels = if scan.0 == 1 { ["value", "entity"] } else { ["entity", "value"] };
         let shown: Vec<Vec<u8>> = in_order(scan).iter().map(|k| slot(asked, *k)).collect();
         let parts: Vec<Vec<u8>> = match scan.1 {
@@ -103,7 +138,7 @@ fn agrees_with_001(asked: &Asked, whole: &[u8]) {
     let names: Result<Vec<String>, _> = (0..asked.case.slots.len()).map(|k| String::from_utf8(name(asked, k).to_vec())).collect();
     if let Ok(names) = names {
         let plan = rust_plan(&asked.case, &names);
-        assert_eq!(format!("{:?}", plan).as_bytes(), whole, "001 and 01 part");
+        assert_eq!(format!("{:?}", plan).as_bytes(), &as_001(whole)[..], "001 and 01 part");
         if check_select_name(asked).is_none() {
             let slot = asked.case.select[asked.select as usize] as usize;
             assert_eq!(plan.get_select_name(asked.select as usize).as_bytes(), name(asked, slot), "001 and 01 part");

@@ -159,7 +159,7 @@ uint64_t loader_types(const struct loader_query *query, const uint64_t *table, s
    again. The indexes of the scans that count are written; every other word stays, whatever it says. Refusals 20, 21. */
 uint64_t loader_next(struct loader_plan *plan, struct loader_answer *answer);
 
-/* The plan check. Refusals 20, 13, 21 to 26. */
+/* The plan check. Refusals 20, 13, 21 to 26, 29. */
 uint64_t loader_check(const struct loader_plan *plan, struct loader_answer *answer);
 
 /* `first` is the plan's cost. Refusals 20, 21, 27. */
@@ -177,8 +177,9 @@ uint64_t loader_evaluate(const struct loader_plan *plan, const uint64_t *aevt, s
                          const uint64_t *eavt, size_t eavt_length, uint64_t from, uint64_t *rows, size_t rows_length, struct loader_answer *answer);
 
 /* The text of a plan, without a 0 or a newline at its end. `ends` holds for each slot where its name ends in `names`; the first starts
-   at 0, each other at the end before it. A constant's name is not read. `first` is the text's length; bytes past it stay. Refusals:
-   those of the plan check, 30, 31. */
+   at 0, each other at the end before it. A constant's name is not read. In the text a byte of a name that is
+   outside 33 to 126, a colon, a comma, a round bracket or a backslash is a backslash and two lowercase hex digits: three bytes for one.
+   `first` is the text's length; bytes past it stay. Refusals: those of the plan check, 30, 31. */
 uint64_t loader_text(const struct loader_plan *plan, const uint8_t *names, size_t names_length, const uint64_t *ends, size_t ends_length,
                      uint8_t *text, size_t text_length, struct loader_answer *answer);
 

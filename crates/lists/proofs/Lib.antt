@@ -3,3 +3,5 @@ pub mod Span
 pub mod Padded
 pub mod Tabled
 pub mod Tests
+pub mod Laid
+pub mod Every

@@ -16,12 +16,13 @@ use Rattle.plan.specs.declared.Index.the-variants.{Aevt, Avet, Eavt}
 use Rattle.plan.specs.declared.Flow.{Flow}
 use Rattle.plan.specs.declared.Flow.the-variants.{OutOut, InOut, InIn}
 use Rattle.plan.specs.Codes.{indexCode, flowCode}
-use Rattle.plan.specs.Plan.{zeroScan, variableSlot, zeroSlot}
+use Rattle.plan.specs.Plan.{zeroScan, variableSlot, zeroSlot, Filled}
 use Rattle.query.specs.Query.{largest}
+use Rattle.lists.specs.Laid.{laid}
 use Rattle.lists.proofs.Tabled.{tabled-same}
 use Rattle.loader_words.specs.Words.{wordSlot, indexOf, flowOf, definitionOf, word, scanWords, slotWords, scansAt, slotsAt, selectAt, scanAt, slotAt, selectedAt, scansIn, slotsIn, selectsIn, planOfWords}
-use Rattle.loader_plan_words.specs.Write.{constantWord, valueWord, wordsOfScan, wordsOfSlot, wordsOfSelect, laid, countWords, wordsOfPlan}
-use Rattle.loader_plan_words.proofs.Written.{Filled, front-long, middle-long}
+use Rattle.loader_plan_words.specs.Write.{constantWord, valueWord, wordsOfScan, wordsOfSlot, wordsOfSelect, countWords, wordsOfPlan}
+use Rattle.loader_plan_words.proofs.Written.{front-long, middle-long}
 
 module _ {A : Type 0} (f : A → List ℕ) (k : ℕ) (each : (x : A) → length (f x) ≡ k) where
   -- word j of record i

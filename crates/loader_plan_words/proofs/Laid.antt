@@ -3,10 +3,11 @@ use mathlib.Core.Path.{_≡_, refl, sym, ap, _∙_}
 use Prim.Native.Nat.{ℕ, suc, _+_, _*_, _<_, _≤_}
 use mathlib.Core.List.{List, [], _∷_, _++_, append-assoc, append-nil}
 use native.Mathlib.Omega.{arith}
-use native.Mathlib.Numerals.{add-one}
 use lib.ListN.{length, getD, take, drop, set, length-append, take-append-drop, drop-of-length-le}
-use lib.Seq.{sets-eq, take-suc, take-at, take-all, drop-append-add, drop-drop, length-take-le}
-use Rattle.loader_plan_words.specs.Write.{laid, putAt}
+use lib.Seq.{sets-eq, take-at, take-all, drop-append-add, drop-drop, length-take-le}
+use Rattle.lists.specs.Laid.{laid}
+use Rattle.lists.proofs.Laid.{laid-length, laid-step}
+use Rattle.loader_plan_words.specs.Write.{putAt}
 
 -- nothing put is nothing changed
 pub put-none : (ws : List ℕ) (at : ℕ) → ws ≡ putAt at [] ws
@@ -52,39 +53,17 @@ put-five ws at a b c d e h =
     let four : at + 4 ≡ suc (suc (suc (suc at))) = omega arith in
     rw (one, two, three, four) (sets-eq (a ∷ b ∷ c ∷ d ∷ e ∷ []) ws at h)
 
-module _ {A : Type 0} (f : A → List ℕ) where
-  pub laid-append : (l m : List A) → laid f (l ++ m) ≡ laid f l ++ laid f m
-  unfolding laid
-  laid-append [] m = refl
-  laid-append (x ∷ l) m = rw (laid-append l m) (sym (append-assoc (f x) (laid f l) (laid f m)))
+module _ {A : Type 0} (f : A → List ℕ) (k : ℕ) (each : (x : A) → length (f x) ≡ k) where
+  -- one record more
+  pub laid-more : (l : List A) (ws vs us : List ℕ) (at i : ℕ) (z : A) → i < length l → at + k * i + k ≤ length ws
+      → vs ≡ putAt at (laid f (take i l)) ws → us ≡ putAt (at + k * i) (f (getD l i z)) vs → us ≡ putAt at (laid f (take (i + 1) l)) ws
+  laid-more l ws vs us at i z h room done e =
+      let long : length (laid f (take i l)) ≡ k * i = laid-length f k each (take i l) ∙ rw (length-take-le i l (omega arith)) refl in
+      let one = each (getD l i z) in
+      e ∙ rw (← long, done) (put-more ws (laid f (take i l)) (f (getD l i z)) at (rw (long, one) room)) ∙ ap (λ (n : List ℕ). putAt at n ws) (sym (laid-step f l i z h))
 
-  laid-one : (x : A) → laid f (x ∷ []) ≡ f x
-  unfolding laid
-  laid-one x = append-nil (f x)
-
-  laid-step : (l : List A) (i : ℕ) (z : A) → i < length l → laid f (take (i + 1) l) ≡ laid f (take i l) ++ f (getD l i z)
-  laid-step l i z h = rw (add-one i, take-suc l i z h, laid-append (take i l) (getD l i z ∷ []), laid-one (getD l i z)) refl
-
-  pub laid-none : [] ≡ laid f []
-  unfolding laid
-  laid-none = refl
-
-  module _ (k : ℕ) (each : (x : A) → length (f x) ≡ k) where
-    pub laid-length : (l : List A) → length (laid f l) ≡ k * length l
-    unfolding laid
-    laid-length [] = omega arith
-    laid-length (x ∷ l) = length-append (f x) (laid f l) ∙ rw (each x, laid-length l) (omega arith)
-
-    -- one record more
-    pub laid-more : (l : List A) (ws vs us : List ℕ) (at i : ℕ) (z : A) → i < length l → at + k * i + k ≤ length ws
-        → vs ≡ putAt at (laid f (take i l)) ws → us ≡ putAt (at + k * i) (f (getD l i z)) vs → us ≡ putAt at (laid f (take (i + 1) l)) ws
-    laid-more l ws vs us at i z h room done e =
-        let long : length (laid f (take i l)) ≡ k * i = laid-length (take i l) ∙ rw (length-take-le i l (omega arith)) refl in
-        let one = each (getD l i z) in
-        e ∙ rw (← long, done) (put-more ws (laid f (take i l)) (f (getD l i z)) at (rw (long, one) room)) ∙ ap (λ (n : List ℕ). putAt at n ws) (sym (laid-step l i z h))
-
-    pub laid-all : (l : List A) (ws vs : List ℕ) (at i : ℕ) → length l ≡ i → vs ≡ putAt at (laid f (take i l)) ws → vs ≡ putAt at (laid f l) ws
-    laid-all l ws vs at i e done = done ∙ ap (λ (m : List A). putAt at (laid f m) ws) (take-all i l (omega arith))
+  pub laid-all : (l : List A) (ws vs : List ℕ) (at i : ℕ) → length l ≡ i → vs ≡ putAt at (laid f (take i l)) ws → vs ≡ putAt at (laid f l) ws
+  laid-all l ws vs at i e done = done ∙ ap (λ (m : List A). putAt at (laid f m) ws) (take-all i l (omega arith))
 
 -- what is put right behind all that was put so far
 pub put-next : (ws xs ys vs us : List ℕ) (at : ℕ) → at ≡ length xs → at + length ys ≤ length ws → vs ≡ putAt 0 xs ws → us ≡ putAt at ys vs

@@ -5,16 +5,13 @@ use mathlib.Core.List.{List, _++_}
 use native.Mathlib.Omega.{arith}
 use lib.ListN.{length, length-append}
 use Rattle.capacity.specs.Capacity.{maxScans, maxSlots, maxSelects}
+use Rattle.lists.specs.Laid.{laid}
+use Rattle.lists.proofs.Laid.{laid-length}
 use Rattle.plan.specs.declared.Plan.{Plan}
+use Rattle.plan.specs.Plan.{Filled}
 use Rattle.loader_words.specs.Words.{scanWords, slotWords, scansAt, slotsAt, selectAt, planWords}
-use Rattle.loader_plan_words.specs.Write.{wordsOfScan, wordsOfSlot, wordsOfSelect, laid, countWords, wordsOfPlan, putAt}
-use Rattle.loader_plan_words.proofs.Laid.{put-next, put-all, laid-length}
-
--- a plan's arrays are as long as their capacities
-pub record Filled (p : Plan) : Type 0 where
-  pub many-scans : length (p .scans) ≡ maxScans
-  pub many-slots : length (p .slots) ≡ maxSlots
-  pub many-selects : length (p .select) ≡ maxSelects
+use Rattle.loader_plan_words.specs.Write.{wordsOfScan, wordsOfSlot, wordsOfSelect, countWords, wordsOfPlan, putAt}
+use Rattle.loader_plan_words.proofs.Laid.{put-next, put-all}
 
 module _ (p : Plan) (full : Filled p) where
   scans-long : length (laid wordsOfScan (p .scans)) ≡ scanWords * maxScans

@@ -2,6 +2,7 @@
 use Prim.Native.Nat.{ℕ, _+_, _*_}
 use mathlib.Core.List.{List, [], _∷_, _++_}
 use lib.ListN.{length, take, drop, set}
+use Rattle.lists.specs.Laid.{laid}
 use Rattle.plan.specs.declared.Slot.{Slot}
 use Rattle.plan.specs.declared.Scan.{Scan}
 use Rattle.plan.specs.declared.SlotRecord.{SlotRecord}
@@ -28,11 +29,6 @@ wordsOfSlot s = constantWord (s .definition) ∷ valueWord (s .definition) ∷ [
 
 abbrev pub wordsOfSelect : Slot → List ℕ
 wordsOfSelect k = k .0 ∷ []
-
--- one after the other
-unfoldable pub laid : {A : Type 0} → (A → List ℕ) → List A → List ℕ
-laid f [] = []
-laid f (x ∷ xs) = f x ++ laid f xs
 
 abbrev pub countWords : Plan → List ℕ
 countWords p = p .«scan_count» ∷ p .«slot_count» ∷ p .«select_count» ∷ []

@@ -25,7 +25,8 @@ ghost use mathlib.Core.Path.{_≡_};
 ghost use Prim.Native.Nat.{_+_, _≤_};
 ghost use lib.ListN.{length, take};
 ghost use Rattle.loader_words.specs.Words.{scansAt, slotsAt, selectAt, planWords, scanWords, slotWords};
-ghost use Rattle.loader_plan_words.specs.Write.{constantWord, valueWord, wordsOfScan, wordsOfSlot, wordsOfSelect, laid, wordsOfPlan, putAt, withIndexes};
+ghost use Rattle.lists.specs.Laid.{laid};
+ghost use Rattle.loader_plan_words.specs.Write.{constantWord, valueWord, wordsOfScan, wordsOfSlot, wordsOfSelect, wordsOfPlan, putAt, withIndexes};
 
 // The words of a plan.
 pub fn words_of_plan(plan: Plan) -> [u64; PLAN_WORDS]

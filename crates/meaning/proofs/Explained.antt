@@ -8,6 +8,7 @@ use mathlib.Core.List.{List}
 use mathlib.Core.Bool.{Bool, true, false, _||_, or-true, false≢true}
 use borrow.Author.Tests.{leb-true, le-leb, eqb-true, eq-eqb}
 use lib.Dec.{leb, eqb}
+use Rattle.lists.proofs.Tests.{either}
 use Rattle.refusal.specs.declared.Verdict.{Verdict}
 use Rattle.refusal.specs.declared.Verdict.the-variants.{Fine, Refused}
 use Rattle.refusal.specs.Verdict.{refused, refuseIf, orElse, refuseFirst, Lowest}
@@ -37,11 +38,6 @@ module _ {R : Type 0} (said : R → Verdict) where
       → ((i : ℕ) → Lowest P i → (w : R) × (refused n (p + i) ≡ said w)) → Explained said (refuseFirst test n p xs)
   first-explained test n d P p xs fails f =
       ⊎-elim (λ w. inl (w .0)) (λ w. let r = f (w .0) (w .1) in inr (r .0, w .2 ∙ r .1)) (refused-lowest test n d P p xs fails)
-
--- one of two tests holds
-pub either : (a b : Bool) → (a || b) ≡ true → (a ≡ true) ⊎ (b ≡ true)
-either true b e = inl refl
-either false b e = inr e
 
 -- a high statement names a variable that is not below the count, and only such a one does
 pub high-names : (n e : ℕ) (v : QueryValue) → (leb n e || highValue n v) ≡ true → (x : ℕ) × ((eqb e x || isVariable v x) ≡ true) × (n ≤ x)

@@ -3,7 +3,7 @@ use mathlib.Core.Path.{_≡_}
 use Prim.Native.Nat.{ℕ, _≤_}
 use mathlib.Core.List.{List, [], _∷_}
 use mathlib.Core.Bool.{Bool, true, false, _||_}
-use lib.ListN.{take, getD, replicate}
+use lib.ListN.{take, getD, replicate, length}
 use lib.Dec.{ltb, eqb}
 use Rattle.refusal.specs.declared.Verdict.{Verdict}
 use Rattle.refusal.specs.Verdict.{refuseIf, orElse, refuseFirst}
@@ -89,6 +89,12 @@ pub record SamePlan (p q : Plan) : Type 0 where
   pub scans : scansOf p ≡ scansOf q
   pub slots : slotsOf p ≡ slotsOf q
   pub selects : slotsSelected p ≡ slotsSelected q
+
+-- a plan's arrays are as long as their capacities, as those of the code always are
+pub record Filled (p : Plan) : Type 0 where
+  pub many-scans : length (p .scans) ≡ maxScans
+  pub many-slots : length (p .slots) ≡ maxSlots
+  pub many-selects : length (p .select) ≡ maxSelects
 
 -- past its counts a plan made here holds variable slots, out-out aevt scans and selects, all numbers 0
 abbrev pub zeroSlot : Slot

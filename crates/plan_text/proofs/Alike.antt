@@ -14,6 +14,7 @@ use Rattle.plan.specs.declared.Plan.{Plan}
 use Rattle.plan.specs.Plan.{firstSlot, secondSlot, constantAt, scansOf, slotsOf, slotsSelected, SamePlan}
 use Rattle.text_pieces.specs.Ascii.{ascii}
 use Rattle.text_pieces.specs.Decimal.{decimal}
+use Rattle.text_pieces.specs.Escaped.{escaped}
 use Rattle.text_names.specs.Names.{nameStart, nameOf}
 use Rattle.text_scan.specs.Line.{shownName, slotText, scanLine}
 use Rattle.plan_text.specs.Text.{scanLines, joined, selectsText, textOf}
@@ -28,7 +29,7 @@ name-past names ends k h =
 
 shown-alike : (b : Bool) (n n′ : List ℕ) → (b ≡ false → n ≡ n′) → shownName b n ≡ shownName b n′
 shown-alike true n n′ e = refl
-shown-alike false n n′ e = e refl
+shown-alike false n n′ e = ap escaped (e refl)
 
 -- names with an end for each slot, where the variables among the slots have the same names
 pub record SameNames (slots : List SlotRecord) (names ends names′ ends′ : List ℕ) : Type 0 where

@@ -3,3 +3,8 @@ pub mod Answers
 pub mod Alike
 pub mod Bench
 pub mod OneAnswer
+pub mod Parts
+pub mod LineParts
+pub mod ConstantParts
+pub mod ScanParts
+pub mod Told

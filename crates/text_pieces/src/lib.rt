@@ -7,6 +7,7 @@ ghost use Prim.Native.Nat.{_-_, _≤_, _<_, min};
 ghost use lib.ListN.{length, take};
 ghost use lib.Seq.{sets};
 ghost use Rattle.text_pieces.specs.Decimal.{digit as Decimal·digit, decimal};
+ghost use Rattle.text_pieces.specs.Escaped.{isPlain, hexDigit, escapedByte, escaped};
 ghost use Rattle.text_pieces.specs.Written.{after, Written};
 
 // Write a piece.
@@ -36,6 +37,70 @@ fn write_digit(digit: u64, at: usize, out: &mut [u8]) -> usize
 {
     let piece = [b'0' + digit as u8];
     write(&piece, at, out)
+}
+
+// Write a name: what is not plain in it is escaped.
+pub fn write_escaped(name: &[u8], at: usize, out: &mut [u8]) -> usize
+    ensures { λ r. ⌜ Written (escaped (now (name .entry))) at (now (out .entry)) r (now (out .exit)) ⌝ }
+{
+    let mut end = at;
+    let mut i = 0;
+    while i < name.len() {
+        end = write_byte(name[i], end, out);
+        i += 1;
+    }
+    end
+}
+
+// Write one byte of a name.
+fn write_byte(byte: u8, at: usize, out: &mut [u8]) -> usize
+    ensures { λ r. ⌜ Written (escapedByte byte) at (now (out .entry)) r (now (out .exit)) ⌝ }
+{
+    if is_plain(byte) {
+        let piece = [byte];
+        return write(&piece, at, out);
+    }
+    let high = hex_digit(byte / 16);
+    let low = hex_digit(byte % 16);
+    let piece = [b'\\', high, low];
+    write(&piece, at, out)
+}
+
+// Whether a byte of a name is written as it is.
+fn is_plain(byte: u8) -> bool
+    ensures { λ r. ⌜ r ≡ isPlain byte ⌝ }
+{
+    if byte < 33 {
+        return false;
+    }
+    if 126 < byte {
+        return false;
+    }
+    if byte == b':' {
+        return false;
+    }
+    if byte == b',' {
+        return false;
+    }
+    if byte == b'(' {
+        return false;
+    }
+    if byte == b')' {
+        return false;
+    }
+    byte != b'\\'
+}
+
+// The byte of a lowercase hex digit.
+fn hex_digit(digit: u8) -> u8
+    requires { ⌜ digit < 16 ⌝ }
+    ensures { λ r. ⌜ r ≡ hexDigit digit ⌝ }
+{
+    if digit < 10 {
+        b'0' + digit
+    } else {
+        b'a' - 10 + digit
+    }
 }
 
 // The position `count` bytes after another.

@@ -12,12 +12,13 @@ use Rattle.plan.specs.declared.Flow.the-variants.{OutOut, InOut, InIn}
 use Rattle.plan.specs.Plan.{firstSlot, secondSlot, constantAt}
 use Rattle.text_pieces.specs.Ascii.{ascii}
 use Rattle.text_pieces.specs.Decimal.{decimal}
+use Rattle.text_pieces.specs.Escaped.{escaped}
 use Rattle.text_names.specs.Names.{nameOf}
 
 -- a variable's name is printed; a constant's isn't read
 abbrev pub shownName : Bool → List ℕ → List ℕ
 shownName true name = []
-shownName false name = name
+shownName false name = escaped name
 
 -- how a slot prints, with the names lent: its name and its number
 unfoldable pub slotText : List SlotRecord → List ℕ → List ℕ → ℕ → List ℕ
@@ -32,6 +33,10 @@ indexText Aevt = ascii " in aevt"
 indexText Avet = ascii " in avet"
 indexText Eavt = ascii " in eavt"
 
+-- every index is followed by the attribute
+abbrev pub scannedText : Index → ℕ → List ℕ
+scannedText x a = indexText x ++ ascii " attribute " ++ decimal a
+
 -- labels follow index order
 abbrev pub firstLabel : Index → List ℕ
 firstLabel Aevt = ascii "entity="
@@ -44,10 +49,10 @@ secondLabel Avet = ascii "entity="
 secondLabel Eavt = ascii "value="
 
 -- a scan over an index, from how its two slots print, in index order
-unfoldable pub flowLine : Flow → Index → List ℕ → List ℕ → List ℕ
-flowLine OutOut x first second = ascii "for " ++ first ++ ascii ", " ++ second ++ indexText x ++ ascii "\n"
-flowLine InOut x first second = ascii "for " ++ second ++ indexText x ++ ascii " (" ++ firstLabel x ++ first ++ ascii ")\n"
-flowLine InIn x first second = ascii "for _" ++ indexText x ++ ascii " (" ++ firstLabel x ++ first ++ ascii ", " ++ secondLabel x ++ second ++ ascii ")\n"
+unfoldable pub flowLine : Flow → Index → ℕ → List ℕ → List ℕ → List ℕ
+flowLine OutOut x a first second = ascii "for " ++ first ++ ascii ", " ++ second ++ scannedText x a ++ ascii "\n"
+flowLine InOut x a first second = ascii "for " ++ second ++ scannedText x a ++ ascii " (" ++ firstLabel x ++ first ++ ascii ")\n"
+flowLine InIn x a first second = ascii "for _" ++ scannedText x a ++ ascii " (" ++ firstLabel x ++ first ++ ascii ", " ++ secondLabel x ++ second ++ ascii ")\n"
 
 unfoldable pub scanLine : List SlotRecord → List ℕ → List ℕ → Scan → List ℕ
-scanLine slots names ends s = flowLine (s .flow) (s .index) (slotText slots names ends (firstSlot s .0)) (slotText slots names ends (secondSlot s .0))
+scanLine slots names ends s = flowLine (s .flow) (s .index) (s .attribute .0) (slotText slots names ends (firstSlot s .0)) (slotText slots names ends (secondSlot s .0))

@@ -15,12 +15,13 @@ use plan::Slot;
 use plan::SlotRecord;
 use text_pieces::write;
 use text_pieces::write_decimal;
+use text_pieces::write_escaped;
 ghost use lib.ListN.{length, take};
 ghost use Rattle.text_pieces.specs.Written.{Written};
 ghost use Rattle.plan.specs.declared.Flow.the-variants.{OutOut, InOut, InIn};
 ghost use Rattle.plan.specs.Plan.{constantAt};
 ghost use Rattle.text_names.specs.Names.{nameOf};
-ghost use Rattle.text_scan.specs.Line.{shownName, slotTextIn, indexText, firstLabel, secondLabel, flowLine, scanLine};
+ghost use Rattle.text_scan.specs.Line.{shownName, slotTextIn, indexText, scannedText, firstLabel, secondLabel, flowLine, scanLine};
 
 // A scan's line.
 pub fn write_scan(
@@ -35,19 +36,21 @@ pub fn write_scan(
 {
     let flow = scan.flow;
     let index = scan.index;
+    let attribute = scan.attribute.0;
     let order = scan.slots();
     let first = order[0];
     let second = order[1];
     match flow {
-        Flow::OutOut => write_out_out(index, first, second, slots, names, ends, at, out),
-        Flow::InOut => write_in_out(index, first, second, slots, names, ends, at, out),
-        Flow::InIn => write_in_in(index, first, second, slots, names, ends, at, out),
+        Flow::OutOut => write_out_out(index, attribute, first, second, slots, names, ends, at, out),
+        Flow::InOut => write_in_out(index, attribute, first, second, slots, names, ends, at, out),
+        Flow::InIn => write_in_in(index, attribute, first, second, slots, names, ends, at, out),
     }
 }
 
-// As `for machine:0, valve:1 in aevt`.
+// As `for machine:0, valve:1 in aevt attribute 5`.
 fn write_out_out(
     index: Index,
+    attribute: u64,
     first: Slot,
     second: Slot,
     slots: [SlotRecord; MAX_SLOTS],
@@ -56,19 +59,20 @@ fn write_out_out(
     start: usize,
     out: &mut [u8],
 ) -> usize
-    ensures { λ r. ⌜ Written (flowLine OutOut index (slotTextIn slots (now (names .entry)) (now (ends .entry)) (first .0)) (slotTextIn slots (now (names .entry)) (now (ends .entry)) (second .0))) start (now (out .entry)) r (now (out .exit)) ⌝ }
+    ensures { λ r. ⌜ Written (flowLine OutOut index attribute (slotTextIn slots (now (names .entry)) (now (ends .entry)) (first .0)) (slotTextIn slots (now (names .entry)) (now (ends .entry)) (second .0))) start (now (out .entry)) r (now (out .exit)) ⌝ }
 {
     let at = write(b"for ", start, out);
     let at = write_slot(first, slots, names, ends, at, out);
     let at = write(b", ", at, out);
     let at = write_slot(second, slots, names, ends, at, out);
-    let at = write_index(index, at, out);
+    let at = write_scanned(index, attribute, at, out);
     write(b"\n", at, out)
 }
 
-// As `for valve:1 in aevt (entity=machine:0)`.
+// As `for valve:1 in aevt attribute 5 (entity=machine:0)`.
 fn write_in_out(
     index: Index,
+    attribute: u64,
     first: Slot,
     second: Slot,
     slots: [SlotRecord; MAX_SLOTS],
@@ -77,20 +81,21 @@ fn write_in_out(
     start: usize,
     out: &mut [u8],
 ) -> usize
-    ensures { λ r. ⌜ Written (flowLine InOut index (slotTextIn slots (now (names .entry)) (now (ends .entry)) (first .0)) (slotTextIn slots (now (names .entry)) (now (ends .entry)) (second .0))) start (now (out .entry)) r (now (out .exit)) ⌝ }
+    ensures { λ r. ⌜ Written (flowLine InOut index attribute (slotTextIn slots (now (names .entry)) (now (ends .entry)) (first .0)) (slotTextIn slots (now (names .entry)) (now (ends .entry)) (second .0))) start (now (out .entry)) r (now (out .exit)) ⌝ }
 {
     let at = write(b"for ", start, out);
     let at = write_slot(second, slots, names, ends, at, out);
-    let at = write_index(index, at, out);
+    let at = write_scanned(index, attribute, at, out);
     let at = write(b" (", at, out);
     let at = write_first_label(index, at, out);
     let at = write_slot(first, slots, names, ends, at, out);
     write(b")\n", at, out)
 }
 
-// As `for _ in aevt (entity=valve:1, value=:2)`.
+// As `for _ in aevt attribute 9 (entity=valve:1, value=:2)`.
 fn write_in_in(
     index: Index,
+    attribute: u64,
     first: Slot,
     second: Slot,
     slots: [SlotRecord; MAX_SLOTS],
@@ -99,10 +104,10 @@ fn write_in_in(
     start: usize,
     out: &mut [u8],
 ) -> usize
-    ensures { λ r. ⌜ Written (flowLine InIn index (slotTextIn slots (now (names .entry)) (now (ends .entry)) (first .0)) (slotTextIn slots (now (names .entry)) (now (ends .entry)) (second .0))) start (now (out .entry)) r (now (out .exit)) ⌝ }
+    ensures { λ r. ⌜ Written (flowLine InIn index attribute (slotTextIn slots (now (names .entry)) (now (ends .entry)) (first .0)) (slotTextIn slots (now (names .entry)) (now (ends .entry)) (second .0))) start (now (out .entry)) r (now (out .exit)) ⌝ }
 {
     let at = write(b"for _", start, out);
-    let at = write_index(index, at, out);
+    let at = write_scanned(index, attribute, at, out);
     let at = write(b" (", at, out);
     let at = write_first_label(index, at, out);
     let at = write_slot(first, slots, names, ends, at, out);
@@ -110,6 +115,15 @@ fn write_in_in(
     let at = write_second_label(index, at, out);
     let at = write_slot(second, slots, names, ends, at, out);
     write(b")\n", at, out)
+}
+
+// An index, and the attribute that is scanned.
+fn write_scanned(index: Index, attribute: u64, start: usize, out: &mut [u8]) -> usize
+    ensures { λ r. ⌜ Written (scannedText index attribute) start (now (out .entry)) r (now (out .exit)) ⌝ }
+{
+    let at = write_index(index, start, out);
+    let at = write(b" attribute ", at, out);
+    write_decimal(attribute, at, out)
 }
 
 fn write_index(index: Index, at: usize, out: &mut [u8]) -> usize
@@ -175,5 +189,5 @@ fn write_name(
         return at;
     }
     let name = text_names::get_name(slot, names, ends);
-    write(name, at, out)
+    write_escaped(name, at, out)
 }

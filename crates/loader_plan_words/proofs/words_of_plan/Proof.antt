@@ -2,8 +2,9 @@
 use Prim.Native.Nat.{ℕ}
 use lib.ListN.{length-map, replicate, length-replicate}
 use Rattle.loader_words.specs.Words.{planWords}
+use Rattle.plan.specs.Plan.{Filled}
 use Rattle.loader_plan_words.proofs.Laid.{put-three}
-use Rattle.loader_plan_words.proofs.Written.{Filled, plan-written}
+use Rattle.loader_plan_words.proofs.Written.{plan-written}
 use borrow.Author.Needs.{needs}
 use Rattle.loader_plan_words.proofs.words_of_plan.Statement.{statement}
 use Rattle.loader_plan_words.proofs.words_of_plan.Tie as tie

@@ -6,8 +6,10 @@ use lib.ListN.{length, take}
 use Rattle.capacity.specs.Capacity.{maxScans}
 use Rattle.plan.specs.Plan.{zeroScan}
 use Rattle.loader_words.specs.Words.{scanWords, planWords, scansAt}
-use Rattle.loader_plan_words.specs.Write.{laid, putAt, wordsOfScan}
-use Rattle.loader_plan_words.proofs.Laid.{put-none, laid-none, laid-more, laid-all}
+use Rattle.lists.specs.Laid.{laid}
+use Rattle.lists.proofs.Laid.{laid-none}
+use Rattle.loader_plan_words.specs.Write.{putAt, wordsOfScan}
+use Rattle.loader_plan_words.proofs.Laid.{put-none, laid-more, laid-all}
 use borrow.Author.Needs.{needs}
 use Rattle.loader_plan_words.proofs.write_scans.Statement.{statement}
 use Rattle.loader_plan_words.proofs.write_scans.Tie as tie

@@ -6,8 +6,10 @@ use lib.ListN.{length, take}
 use Rattle.capacity.specs.Capacity.{maxSelects}
 use Rattle.plan.specs.Plan.{zeroSlot}
 use Rattle.loader_words.specs.Words.{planWords, selectAt}
-use Rattle.loader_plan_words.specs.Write.{laid, putAt, wordsOfSelect}
-use Rattle.loader_plan_words.proofs.Laid.{put-none, laid-none, laid-more, laid-all}
+use Rattle.lists.specs.Laid.{laid}
+use Rattle.lists.proofs.Laid.{laid-none}
+use Rattle.loader_plan_words.specs.Write.{putAt, wordsOfSelect}
+use Rattle.loader_plan_words.proofs.Laid.{put-none, laid-more, laid-all}
 use borrow.Author.Needs.{needs}
 use Rattle.loader_plan_words.proofs.write_select.Statement.{statement}
 use Rattle.loader_plan_words.proofs.write_select.Tie as tie

@@ -6,8 +6,10 @@ use lib.ListN.{length, take}
 use Rattle.capacity.specs.Capacity.{maxSlots}
 use Rattle.plan.specs.Plan.{variableSlot}
 use Rattle.loader_words.specs.Words.{slotWords, planWords, slotsAt}
-use Rattle.loader_plan_words.specs.Write.{laid, putAt, wordsOfSlot}
-use Rattle.loader_plan_words.proofs.Laid.{put-none, laid-none, laid-more, laid-all}
+use Rattle.lists.specs.Laid.{laid}
+use Rattle.lists.proofs.Laid.{laid-none}
+use Rattle.loader_plan_words.specs.Write.{putAt, wordsOfSlot}
+use Rattle.loader_plan_words.proofs.Laid.{put-none, laid-more, laid-all}
 use borrow.Author.Needs.{needs}
 use Rattle.loader_plan_words.proofs.write_slots.Statement.{statement}
 use Rattle.loader_plan_words.proofs.write_slots.Tie as tie

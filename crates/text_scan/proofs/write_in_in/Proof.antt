@@ -17,7 +17,7 @@ line c =
     let s3 = s4 .before .before .before .before in
     let s2 = s3 .before .before .before .before .before in
     let s1 = s2 .before .before .before .before in
-    written-then (written-then (written-then (written-then (written-then (written-then (written-then (written-then (s1 .write .ensures) (s2 .write-index .ensures)) (s3 .write2 .ensures)) (s4 .write-first-label .ensures)) (s5 .write-slot .ensures)) (s6 .write3 .ensures)) (s7 .write-second-label .ensures)) (s8 .write-slot2 .ensures)) (s9 .write4 .ensures)
+    written-then (written-then (written-then (written-then (written-then (written-then (written-then (written-then (s1 .write .ensures) (s2 .write-scanned .ensures)) (s3 .write2 .ensures)) (s4 .write-first-label .ensures)) (s5 .write-slot .ensures)) (s6 .write3 .ensures)) (s7 .write-second-label .ensures)) (s8 .write-slot2 .ensures)) (s9 .write4 .ensures)
 
 pub write-in-in-spec : {M : Type 1} → statement M
 write-in-in-spec =

@@ -15,7 +15,7 @@ line c =
     let s3 = s4 .before .before .before .before .before in
     let s2 = s3 .before .before .before .before in
     let s1 = s2 .before .before .before .before in
-    written-then (written-then (written-then (written-then (written-then (written-then (s1 .write .ensures) (s2 .write-slot .ensures)) (s3 .write-index .ensures)) (s4 .write2 .ensures)) (s5 .write-first-label .ensures)) (s6 .write-slot2 .ensures)) (s7 .write3 .ensures)
+    written-then (written-then (written-then (written-then (written-then (written-then (s1 .write .ensures) (s2 .write-slot .ensures)) (s3 .write-scanned .ensures)) (s4 .write2 .ensures)) (s5 .write-first-label .ensures)) (s6 .write-slot2 .ensures)) (s7 .write3 .ensures)
 
 pub write-in-out-spec : {M : Type 1} → statement M
 write-in-out-spec =

@@ -15,4 +15,4 @@ write-name-spec =
     (λ c κs. search needs)
     (λ c κs. search needs)
     (λ c. search needs)
-    (λ c. rw (sym (c .before .before .before .before .before .before .is-constant .ensures) ∙ c .before .before .before .before .before .if1 .left, ← (c .before .before .before .before .get-name .ensures)) (c .before .before .write .ensures)))
+    (λ c. rw (sym (c .before .before .before .before .before .before .is-constant .ensures) ∙ c .before .before .before .before .before .if1 .left, ← (c .before .before .before .before .get-name .ensures)) (c .before .before .write-escaped .ensures)))

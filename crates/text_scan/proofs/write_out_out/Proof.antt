@@ -14,7 +14,7 @@ line c =
     let s3 = s4 .before .before .before .before in
     let s2 = s3 .before .before .before .before .before in
     let s1 = s2 .before .before .before .before in
-    written-then (written-then (written-then (written-then (written-then (s1 .write .ensures) (s2 .write-slot .ensures)) (s3 .write2 .ensures)) (s4 .write-slot2 .ensures)) (s5 .write-index .ensures)) (s6 .write3 .ensures)
+    written-then (written-then (written-then (written-then (written-then (s1 .write .ensures) (s2 .write-slot .ensures)) (s3 .write2 .ensures)) (s4 .write-slot2 .ensures)) (s5 .write-scanned .ensures)) (s6 .write3 .ensures)
 
 pub write-out-out-spec : {M : Type 1} → statement M
 write-out-out-spec =
