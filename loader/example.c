@@ -1,5 +1,5 @@
-/* Which heater has its level switch bridged? Plans the question, prints the plan's text and cost, and evaluates it, several rows a
-   call; then lists the orders in which the heaters may be tried. Attribute 1: a heater's level switch. Attribute 2: a switch's
+/* Which heater has its level switch bridged? Plans the question, prints the plan's text and cost, and keeps the plan; at the next start
+   reads it again and evaluates it, several rows a call; then lists the orders in which the heaters may be tried. Attribute 1: a heater's level switch. Attribute 2: a switch's
    state, 9 is bridged. */
 #include "loader.h"
 #include <stdio.h>
@@ -29,15 +29,16 @@ int main(void)
         },
         .select = { 0 },
     };
-    static struct loader_plan plan;
+    static struct loader_plan plan, kept;
     static struct loader_answer answer;
     static struct loader_swaps swaps;
     static uint64_t order[LOADER_MAX_SEARCHED];
-    static uint8_t text[1024];
+    static uint8_t text[1024], image[LOADER_MAX_IMAGE];
     static const uint8_t names[] = "heaterswitch";
     static const uint64_t ends[] = { 6, 12, 12 }; /* a slot for each variable and each constant: the constant's name is not read */
     const uint8_t *name;
     uint64_t rows[32], from = 0, heaters[] = { 10, 11, 12 }, swap[2], heater;
+    size_t image_length;
     int length;
 
     if (loader_search(&query, order, &plan, &answer) != 0)
@@ -53,11 +54,23 @@ int main(void)
     length = (int)answer.first;
     name = names + ends[plan.select[0]] - answer.first;
 
+    /* The plan as bytes, to be kept with their number in the project archive. */
+    if (loader_store(&plan, image, sizeof image, &answer) != 0)
+        return refused("store", &answer);
+    image_length = answer.first;
+    printf("kept in %zu bytes\n", image_length);
+
+    /* The next start: no search. What was only half written is refused, and the question is planned anew. */
+    if (loader_restore(image, image_length - 1, &kept, &answer) != 0)
+        refused("restore", &answer);
+    if (loader_restore(image, image_length, &kept, &answer) != 0)
+        return refused("restore", &answer);
+
     do {
-        if (loader_evaluate(&plan, aevt, WORDS(aevt), avet, WORDS(avet), eavt, WORDS(eavt), from, rows, WORDS(rows), &answer) != 0)
+        if (loader_evaluate(&kept, aevt, WORDS(aevt), avet, WORDS(avet), eavt, WORDS(eavt), from, rows, WORDS(rows), &answer) != 0)
             return refused("evaluate", &answer);
         for (uint64_t i = 0; i < answer.first; i++)
-            printf("%.*s %llu\n", length, (const char *)name, (unsigned long long)rows[i * plan.select_count]);
+            printf("%.*s %llu\n", length, (const char *)name, (unsigned long long)rows[i * kept.select_count]);
         from += answer.first;
     } while (answer.second == 1);
 

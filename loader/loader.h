@@ -15,7 +15,7 @@
 
    Stack: no call takes more than LOADER_STACK bytes (loader/run measures it).
 
-   A refused call writes its answer, and nothing else: plan, order, types, rows, text, swap and swap state stay as they were. */
+   A refused call writes its answer, and nothing else: plan, order, types, rows, text, image, swap and swap state stay as they were. */
 #ifndef LOADER_H
 #define LOADER_H
 #include <stddef.h>
@@ -33,13 +33,16 @@ enum {
     LOADER_MAX_SLOTS = 96,
     LOADER_MAX_SELECTS = 32,
     LOADER_MAX_SEARCHED = 6,
-    LOADER_MAX_ELEMENTS = 48
+    LOADER_MAX_ELEMENTS = 48,
+    /* bytes of the longest image: three counts, slots that are constants, scans, selects, and the rest of the last byte */
+    LOADER_MAX_IMAGE = (19 + 65 * LOADER_MAX_SLOTS + 82 * LOADER_MAX_SCANS + 7 * LOADER_MAX_SELECTS + 7) / 8
 };
 
 /* Why a call is refused. The order in which the numbers are tried is document 01's: planning 10 to 16 ascending; search 10 to 15, 17,
    18; plan check 20, 13, then scan by scan 21 to 24, then 25, then select by select 26 or 29; cost and next 20, 21, cost then 27;
    evaluation the plan check, 1, 2, 3; text the plan check, 30, 31; a select's name the plan check, 30, 26; swaps 40; types 10 to 16, 50,
-   then statement by statement 52 of its entity, 51, 52 of its value. Within a number the lowest place is given. */
+   then statement by statement 52 of its entity, 51, 52 of its value; storing the plan check, 64; restoring 60 to 63 and 20 as they are met,
+   then the plan check. Within a number the lowest place is given. */
 enum loader_refusal {
     LOADER_FINE = 0,                  /* not refused */
     LOADER_TABLE_LENGTH = 1,          /* a table's length is no multiple of 3, or lengths differ; place 0 */
@@ -69,7 +72,12 @@ enum loader_refusal {
     LOADER_TOO_MANY_ELEMENTS = 40,    /* a swap state of over 48 elements, given or asked for; place 0 */
     LOADER_TYPE_TABLE = 50,           /* a table of types is of odd length or isn't strictly ascending by attribute; place 0 */
     LOADER_NO_SUCH_ATTRIBUTE = 51,    /* an attribute is not in the table of types; place: statement */
-    LOADER_TYPE_CLASH = 52            /* a variable is used as two types; place: statement */
+    LOADER_TYPE_CLASH = 52,           /* a variable is used as two types; place: statement */
+    LOADER_BITS_RUN_OUT = 60,         /* an image's bits run out; place: the byte where the field begins, as with the next three */
+    LOADER_NO_SUCH_CODE = 61,         /* a code 3, which is no index and no flow */
+    LOADER_PAD_NOT_ZERO = 62,         /* a pad bit is not zero */
+    LOADER_BYTE_TOO_MANY = 63,        /* a byte too many */
+    LOADER_NO_ROOM_FOR_IMAGE = 64     /* image buffer too short for the whole image; place 0 */
 };
 
 /* What a call answers, besides what it returns. A call writes all four words. */
@@ -182,6 +190,14 @@ uint64_t loader_evaluate(const struct loader_plan *plan, const uint64_t *aevt, s
    `first` is the text's length; bytes past it stay. Refusals: those of the plan check, 30, 31. */
 uint64_t loader_text(const struct loader_plan *plan, const uint8_t *names, size_t names_length, const uint64_t *ends, size_t ends_length,
                      uint8_t *text, size_t text_length, struct loader_answer *answer);
+
+/* Store a plan as an image, by which it is kept: fields of bits, of no more bytes than the plan wants and at most LOADER_MAX_IMAGE. `first` is the
+   image's length; bytes past it stay. Whoever keeps images keeps their lengths. Refusals: those of the plan check, 64. */
+uint64_t loader_store(const struct loader_plan *plan, uint8_t *image, size_t image_length, struct loader_answer *answer);
+
+/* Read an image: the plan that was stored, with zeros past its counts, and checked. Any bytes may be given; those of an image that was
+   only written in part are refused, 60. Refusals 60 to 63, 20, and those of the plan check. */
+uint64_t loader_restore(const uint8_t *image, size_t image_length, struct loader_plan *plan, struct loader_answer *answer);
 
 /* The name of select `index`. `first` is its length; it ends where the name of the select's slot does, so that it is the `first` bytes
    before `names + ends[plan->select[index]]`. Refusals: those of the plan check, 30, 26. */

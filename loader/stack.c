@@ -13,8 +13,9 @@ static struct loader_plan plan, stepped;
 static struct loader_answer answer;
 static struct loader_swaps swaps;
 static uint64_t order[LOADER_MAX_SEARCHED], swap[2], rows[64], ends[LOADER_MAX_SLOTS], types[LOADER_MAX_SLOTS];
+static size_t image_length;
 static const uint64_t table[] = { 1, 1, 1 }, attributes[] = { 0, 9, 1, 9, 2, 9 };
-static uint8_t text[1 << 16], stack[ROOM] __attribute__((aligned(4096)));
+static uint8_t text[1 << 16], image[LOADER_MAX_IMAGE], stack[ROOM] __attribute__((aligned(4096)));
 
 static void plan_it(void) { loader_plan(&query, &plan, &answer); }
 static void search_it(void) { loader_search(&small, order, &stepped, &answer); }
@@ -26,6 +27,8 @@ static void tables_it(void) { loader_tables(table, 3, table, 3, table, 3, &answe
 static void evaluate_it(void) { loader_evaluate(&plan, table, 3, table, 3, table, 3, 0, rows, 64, &answer); }
 static void text_it(void) { loader_text(&plan, (const uint8_t *)"", 0, ends, plan.slot_count, text, sizeof text, &answer); }
 static void name_it(void) { loader_select_name(&plan, (const uint8_t *)"", 0, ends, plan.slot_count, 0, &answer); }
+static void store_it(void) { loader_store(&plan, image, sizeof image, &answer); image_length = answer.first; }
+static void restore_it(void) { loader_restore(image, image_length, &stepped, &answer); }
 static void permutations_it(void) { loader_permutations(LOADER_MAX_ELEMENTS, &swaps, &answer); }
 static void swap_it(void) { loader_next_swap(&swaps, swap, &answer); }
 
@@ -59,7 +62,8 @@ int main(void)
     static const struct { const char *name; void (*call)(void); } calls[] = {
         { "plan", plan_it }, { "search", search_it }, { "types", types_it }, { "next", next_it }, { "check", check_it },
         { "cost", cost_it }, { "tables", tables_it }, { "evaluate", evaluate_it }, { "text", text_it },
-        { "select_name", name_it }, { "permutations", permutations_it }, { "next_swap", swap_it },
+        { "select_name", name_it }, { "store", store_it }, { "restore", restore_it },
+        { "permutations", permutations_it }, { "next_swap", swap_it },
     };
     size_t most = 0;
     /* 48 statements (variable i, attribute 1, constant 1), so that each scan finds the one fact, and each attribute has a type; six of them for the search. */

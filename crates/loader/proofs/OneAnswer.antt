@@ -14,8 +14,10 @@ use Rattle.visits.specs.Visits.{Tables}
 use Rattle.eval.specs.Evaluation.{evaluateOf, bufferAfter}
 use Rattle.text_names.specs.Names.{selectNameFault}
 use Rattle.plan_text.specs.Answer.{formattedOf, textAfter}
+use Rattle.image.specs.Image.{storedOf, imageAfter}
+use Rattle.image.specs.Read.{planReadOf}
 use Rattle.loader_words.specs.Words.{planOfWords}
-use Rattle.loader.specs.Answers.{answerOf, bit, planAfter, steppedAfter, orderAfter, typesAfter, stateAfter, swapAfter, plannedOf, foundOf, typedOf, steppedOf, swappedOf, evaluatedWords, formattedWords, nameWords}
+use Rattle.loader.specs.Answers.{answerOf, bit, planAfter, steppedAfter, orderAfter, typesAfter, stateAfter, swapAfter, plannedOf, foundOf, typedOf, steppedOf, swappedOf, evaluatedWords, formattedWords, nameWords, storedWords}
 
 -- a call returns r and leaves a in its answer; and b in a buffer; and c in another
 abbrev Answers : ℕ → List ℕ → ℕ → List ℕ → Type 0
@@ -88,6 +90,18 @@ module _ (r r′ : ℕ) (a a′ : List ℕ) where
         let says = Writes (numberOf (formatted .verdict)) (formattedWords formatted) (textAfter (planOfWords plan) names ends out) in
         says r a b → says r′ a′ b′ → (r ≡ r′) × (a ≡ a′) × (b ≡ b′)
     loader-text-one plan names ends out = writes-one _ _ _ r r′ a a′ b b′
+
+    pub loader-store-one : (plan out : List ℕ) →
+        let stored = storedOf (planOfWords plan) (length out) in
+        let says = Writes (numberOf (stored .verdict)) (storedWords stored) (imageAfter (planOfWords plan) out) in
+        says r a b → says r′ a′ b′ → (r ≡ r′) × (a ≡ a′) × (b ≡ b′)
+    loader-store-one plan out = writes-one _ _ _ r r′ a a′ b b′
+
+    pub loader-restore-one : (image plan : List ℕ) →
+        let restored = planReadOf image in
+        let says = Writes (numberOf (restored .verdict)) (answerOf (restored .verdict) 0 0) (planAfter (restored .verdict) (restored .plan) plan) in
+        says r a b → says r′ a′ b′ → (r ≡ r′) × (a ≡ a′) × (b ≡ b′)
+    loader-restore-one image plan = writes-one _ _ _ r r′ a a′ b b′
 
     pub loader-permutations-one : (n : ℕ) (state : List ℕ) →
         let fresh = freshOf n in

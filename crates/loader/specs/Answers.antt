@@ -25,6 +25,7 @@ use Rattle.listing.specs.Next.{nextPlanOf}
 use Rattle.eval.specs.declared.Evaluated.{Evaluated}
 use Rattle.text_names.specs.Names.{selectNameFault, selectNameOf}
 use Rattle.plan_text.specs.declared.Formatted.{Formatted}
+use Rattle.image.specs.declared.Stored.{Stored}
 
 -- number, place, and what else the call answers
 abbrev pub answerOf : Verdict → ℕ → ℕ → List ℕ
@@ -85,3 +86,7 @@ formattedWords f = answerOf (f .verdict) (f .length) 0
 -- a select's name: its length
 abbrev pub nameWords : Plan → List ℕ → List ℕ → ℕ → List ℕ
 nameWords p names ends i = answerOf (selectNameFault p names ends i) (length (selectNameOf p names ends i)) 0
+
+-- a stored plan: its length
+abbrev pub storedWords : Stored → List ℕ
+storedWords s = answerOf (s .verdict) (s .length) 0

@@ -1,5 +1,5 @@
-// The public calls as C functions, for the bootloader; loader/loader.h is their header. Plans and queries are words (crates `loader_words` and `plan_words`), and so are
-// swap states (crate `loader_swap_words`).
+// The public calls as C functions, for the bootloader; loader/loader.h is their header. Plans and queries are words (crates `loader_words` and
+// `loader_plan_words`), and so are swap states (crate `loader_swap_words`).
 //
 // Each call answers the refusal's number, 0 where there is none, and writes the whole answer into the four words that are lent for it:
 // the number, the place, and two more that each call names (0 where it has none, or where it is refused). A refused call writes
@@ -21,9 +21,11 @@ ghost use Rattle.eval.specs.Evaluation.{evaluateOf, bufferAfter};
 ghost use Rattle.refusal.specs.Verdict.{numberOf, placeOf};
 ghost use Rattle.text_names.specs.Names.{selectNameFault};
 ghost use Rattle.plan_text.specs.Answer.{formattedOf, textAfter};
+ghost use Rattle.image.specs.Image.{storedOf, imageAfter};
+ghost use Rattle.image.specs.Read.{planReadOf};
 ghost use Rattle.permutation.specs.Swaps.{freshOf};
 ghost use Rattle.loader_words.specs.Words.{planOfWords};
-ghost use Rattle.loader.specs.Answers.{answerOf, bit, planAfter, steppedAfter, orderAfter, typesAfter, stateAfter, swapAfter, plannedOf, foundOf, typedOf, steppedOf, swappedOf, evaluatedWords, formattedWords, nameWords};
+ghost use Rattle.loader.specs.Answers.{answerOf, bit, planAfter, steppedAfter, orderAfter, typesAfter, stateAfter, swapAfter, plannedOf, foundOf, typedOf, steppedOf, swappedOf, evaluatedWords, formattedWords, nameWords, storedWords};
 
 // Where each part of an answer stands, and how many words it has.
 const ANSWER_NUMBER: usize = 0;
@@ -230,6 +232,46 @@ pub extern "C" fn loader_select_name<'a>(
     let name = text_names::get_select_name(read, names, ends, index);
     *answer = answer_of(verdict, name.len() as u64, 0);
     number_of(verdict)
+}
+
+// A plan's image, by which it is kept. Answers its length. Refusals: the plan check's, 64.
+#[no_mangle]
+pub extern "C" fn loader_store(
+    plan: &[u64; PLAN_WORDS],
+    out: &mut [u8],
+    answer: &mut [u64; ANSWER_WORDS],
+) -> u64
+    ensures { λ r. ⌜ r ≡ numberOf (storedOf (planOfWords (now (plan .entry))) (length (now (out .entry))) .verdict) ⌝ }
+    ensures { λ r. ⌜ now (answer .exit) ≡ storedWords (storedOf (planOfWords (now (plan .entry))) (length (now (out .entry)))) ⌝ }
+    ensures { λ r. ⌜ now (out .exit) ≡ imageAfter (planOfWords (now (plan .entry))) (now (out .entry)) ⌝ }
+{
+    let read = loader_words::read_plan(plan);
+    let stored = image_write::write_image(read, out);
+    let verdict = stored.verdict;
+    *answer = answer_of(verdict, stored.length as u64, 0);
+    number_of(verdict)
+}
+
+// The plan that an image says. Refusals 60 to 63, 20, and the plan check's.
+#[no_mangle]
+pub extern "C" fn loader_restore(
+    image: &[u8],
+    plan: &mut [u64; PLAN_WORDS],
+    answer: &mut [u64; ANSWER_WORDS],
+) -> u64
+    ensures { λ r. ⌜ r ≡ numberOf (planReadOf (now (image .entry)) .verdict) ⌝ }
+    ensures { λ r. ⌜ now (answer .exit) ≡ answerOf (planReadOf (now (image .entry)) .verdict) 0 0 ⌝ }
+    ensures { λ r. ⌜ now (plan .exit) ≡ planAfter (planReadOf (now (image .entry)) .verdict) (planReadOf (now (image .entry)) .plan) (now (plan .entry)) ⌝ }
+{
+    let restored = image_read::read_image(image);
+    let verdict = restored.verdict;
+    *answer = answer_of(verdict, 0, 0);
+    if let Verdict::Refused(_) = verdict {
+        return number_of(verdict);
+    }
+    let found = restored.plan;
+    *plan = loader_plan_words::words_of_plan(found);
+    0
 }
 
 // A swap state whose steps list every order of n elements. Refusal 40.

@@ -83,3 +83,14 @@ pub const TYPE_TABLE: u8 = 50;
 pub const NO_SUCH_ATTRIBUTE: u8 = 51;
 
 pub const TYPE_CLASH: u8 = 52;
+
+// Stored plans.
+pub const BITS_RUN_OUT: u8 = 60;
+
+pub const NO_SUCH_CODE: u8 = 61;
+
+pub const PAD_NOT_ZERO: u8 = 62;
+
+pub const BYTE_TOO_MANY: u8 = 63;
+
+pub const NO_ROOM_FOR_IMAGE: u8 = 64;

@@ -7,6 +7,7 @@ mod over_tables;
 use libc::STDIN_FILENO;
 use replay_given::numbers;
 use replay_given::written::put;
+use replay_plans::images;
 use replay_plans::plans;
 use replay_plans::queries;
 use replay_plans::searches;
@@ -38,6 +39,10 @@ const PLAN_PARTS: u64 = 7;
 const QUERY_CHECKS: u64 = 8;
 
 const TYPES: u64 = 9;
+
+const IMAGES_WRITTEN: u64 = 10;
+
+const IMAGES_READ: u64 = 11;
 
 fn main() {
     let mut text = text_buffer();
@@ -82,6 +87,8 @@ fn put_case(text: &[u8], start: usize) -> usize {
         PLAN_PARTS => plans::put_parts(text, next),
         QUERY_CHECKS => queries::put_check(text, next),
         TYPES => typed::put_case(text, next),
+        IMAGES_WRITTEN => images::put_written(text, next),
+        IMAGES_READ => images::put_read(text, next),
         _ => put_unknown(start),
     }
 }

@@ -1,5 +1,6 @@
 // The cases of `replay` that want no tables, a module for each kind (docs/REPLAY.md): the swaps, plans and their parts, the text of a
-// plan, queries planned, checked, searched and typed.
+// plan, plans stored and read, queries planned, checked, searched and typed.
+pub mod images;
 pub mod plans;
 pub mod queries;
 pub mod searches;

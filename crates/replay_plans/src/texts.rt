@@ -14,13 +14,13 @@ ghost use Prim.Native.Nat.{_≤_};
 ghost use lib.ListN.{length};
 ghost use Rattle.replay_plans.specs.Capacity.{bufferBytes};
 
-// The longest buffer for a text.
-const BUFFER_BYTES: usize = 4096;
+// The longest buffer for a text, an image or an image given.
+pub const BUFFER_BYTES: usize = 4096;
 
 // How many were read, and where to read on.
-struct Counted {
-    count: usize,
-    next: usize,
+pub struct Counted {
+    pub count: usize,
+    pub next: usize,
 }
 
 // The case that begins at a place. Returns where to read on.
@@ -29,7 +29,7 @@ pub fn put_case(text: &[u8], start: usize) -> usize {
     let plan = reading.plan;
     let mut names = [0u8; 1024];
     let mut ends = [0usize; 128];
-    let bytes = read_names(text, reading.next, &mut names);
+    let bytes = read_bytes(text, reading.next, &mut names);
     let slots = read_ends(text, bytes.next, &mut ends);
     let byte_count = bytes.count;
     let end_count = slots.count;
@@ -92,7 +92,7 @@ fn show_text(plan: Plan, names: &[u8], ends: &[usize], out: &mut [u8]) {
 }
 
 // A buffer that shows which bytes stay.
-fn blank() -> [u8; BUFFER_BYTES]
+pub fn blank() -> [u8; BUFFER_BYTES]
     ensures { λ r. ⌜ bufferBytes ≡ length r ⌝ }
 {
     [126; BUFFER_BYTES]
@@ -149,18 +149,19 @@ fn show_slot(plan: Plan, names: &[u8], ends: &[usize], slot: Slot) {
     put_bytes(text_names::get_name(slot, names, ends));
 }
 
-fn read_names(text: &[u8], start: usize, names: &mut [u8]) -> Counted
-    ensures { λ r. ⌜ r .count ≤ length (now (names .entry)) ⌝ }
+// Bytes with their number before them, as many as there is room for.
+pub fn read_bytes(text: &[u8], start: usize, bytes: &mut [u8]) -> Counted
+    ensures { λ r. ⌜ r .count ≤ length (now (bytes .entry)) ⌝ }
 {
     let given = numbers::number_at(text, start);
     let mut next = given.next;
     let mut i = 0;
-    while i < names.len() {
+    while i < bytes.len() {
         if given.value <= i as u64 {
             return Counted { count: i, next };
         }
         let byte = numbers::number_at(text, next);
-        names[i] = (byte.value % 256) as u8;
+        bytes[i] = (byte.value % 256) as u8;
         next = byte.next;
         i += 1;
     }

@@ -3,24 +3,13 @@ use mathlib.Core.Path.{_≡_, refl, sym, ap, _∙_}
 use mathlib.Core.Logic.{⊎-elim}
 use mathlib.Core.List.{List, [], _∷_, _++_}
 use Prim.Native.Nat.{ℕ, suc, _+_, _-_, _≤_, _<_, min}
-use native.Mathlib.Nat.{add-zero, eq-or-lt-of-le}
+use native.Mathlib.Nat.{eq-or-lt-of-le}
 use native.Mathlib.Numerals.{add-one}
 use native.Mathlib.Omega.{arith}
 use lib.ListN.{length, take, drop, set, getD, length-append, take-append-drop, drop-of-length-le}
-use lib.Seq.{sets, length-sets, set-out, take-suc, length-take-le}
+use lib.Seq.{sets, length-sets, take-suc, length-take-le}
+use Rattle.lists.proofs.Sets.{sets-append, sets-past}
 use Rattle.text_pieces.specs.Written.{largest, Written}
-
--- one piece after the other
-pub sets-append : (p q l : List ℕ) (i : ℕ) → sets l i (p ++ q) ≡ sets (sets l i p) (i + length p) q
-sets-append [] q l i = rw (add-zero i)
-sets-append (a ∷ p) q l i =
-    let e : suc i + length p ≡ i + suc (length p) = omega arith in
-    sets-append p q (set l i a) (suc i) ∙ ap (λ (n : ℕ). sets (sets (set l i a) (suc i) p) n q) e
-
--- from the end of the buffer on nothing is written
-pub sets-past : (p l : List ℕ) (i : ℕ) → length l ≤ i → sets l i p ≡ l
-sets-past [] l i h = refl
-sets-past (a ∷ p) l i h = rw (set-out l i a h) (sets-past p l (suc i) (omega arith))
 
 -- one byte more
 pub sets-more : (p l : List ℕ) (i j : ℕ) → j < length p → set (sets l i (take j p)) (i + j) (getD p j 0) ≡ sets l i (take (j + 1) p)

@@ -1,0 +1,5 @@
+pub mod Laws
+pub mod Steps
+pub mod Bytes
+pub mod Over
+pub mod OneAnswer

@@ -1,0 +1,9 @@
+pub mod Below
+pub mod Codec
+pub mod Readers
+pub mod Fields
+pub mod Theorem
+pub mod Length
+pub mod Alike
+pub mod Places
+pub mod Cases

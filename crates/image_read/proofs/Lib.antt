@@ -1,0 +1,6 @@
+mod Window
+mod Answered
+mod Made
+mod Gathered
+mod Whole
+pub mod OneAnswer

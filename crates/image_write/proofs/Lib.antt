@@ -1,0 +1,4 @@
+pub mod Fields
+pub mod Slots
+pub mod Written
+pub mod OneAnswer
