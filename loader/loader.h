@@ -25,15 +25,15 @@
 extern "C" {
 #endif
 
-enum { LOADER_STACK = 49152 };
+enum { LOADER_STACK = 53248 };
 
 enum {
-    LOADER_MAX_STATEMENTS = 48,
-    LOADER_MAX_SCANS = 48,
-    LOADER_MAX_SLOTS = 96,
+    LOADER_MAX_STATEMENTS = 63,
+    LOADER_MAX_SCANS = LOADER_MAX_STATEMENTS,
+    LOADER_MAX_SLOTS = 126,
     LOADER_MAX_SELECTS = 32,
     LOADER_MAX_SEARCHED = 6,
-    LOADER_MAX_ELEMENTS = 48,
+    LOADER_MAX_ELEMENTS = LOADER_MAX_STATEMENTS,
     /* bytes of the longest image: three counts, slots that are constants, scans, selects, and the rest of the last byte */
     LOADER_MAX_IMAGE = (19 + 65 * LOADER_MAX_SLOTS + 82 * LOADER_MAX_SCANS + 7 * LOADER_MAX_SELECTS + 7) / 8
 };
@@ -48,16 +48,16 @@ enum loader_refusal {
     LOADER_TABLE_LENGTH = 1,          /* a table's length is no multiple of 3, or lengths differ; place 0 */
     LOADER_TABLE_ORDER = 2,           /* a table isn't strictly ascending; place 0 aevt, 1 avet, 2 eavt */
     LOADER_TABLE_MISSING = 3,         /* a fact of aevt is missing in avet or eavt; place: its row in aevt */
-    LOADER_TOO_MANY_STATEMENTS = 10,  /* over 48 statements; place 0 */
-    LOADER_TOO_MANY_SLOTS = 11,       /* variables and constants over 96; place 0 */
-    LOADER_TOO_MANY_SELECTS = 12,     /* over 32 selects; place 0 */
+    LOADER_TOO_MANY_STATEMENTS = 10,  /* more statements than fit; place 0 */
+    LOADER_TOO_MANY_SLOTS = 11,       /* variables and constants are more than fit; place 0 */
+    LOADER_TOO_MANY_SELECTS = 12,     /* more selects than fit; place 0 */
     LOADER_NO_SELECTS = 13,           /* no selects, of a query or a plan; place 0 */
     LOADER_NO_SUCH_VARIABLE = 14,     /* a variable number not below the variable count; place: statement, or statement count + select */
     LOADER_UNUSED_VARIABLE = 15,      /* a variable in no statement; place: the variable */
     LOADER_BOUND_TWICE = 16,          /* entity and value are one variable, new there; place: statement */
     LOADER_TOO_MANY_TO_SEARCH = 17,   /* search over 6 statements; place 0 */
     LOADER_NO_SOUND_ORDER = 18,       /* no order of the statements is sound; place 0 */
-    LOADER_PLAN_COUNTS = 20,          /* plan counts over 96 slots, 48 scans or 32 selects; place 0 */
+    LOADER_PLAN_COUNTS = 20,          /* a plan counts more slots, scans or selects than fit; place 0 */
     LOADER_OUT_OUT_EAVT = 21,         /* a scan is out-out over eavt, or its index or flow is none; place: scan */
     LOADER_NO_SUCH_SLOT = 22,         /* a scan names no slot of the plan; place: scan */
     LOADER_WRITES_SET_SLOT = 23,      /* a scan writes a slot that is set; place: scan */
@@ -69,7 +69,7 @@ enum loader_refusal {
     LOADER_CONSTANT_SELECTED = 29,    /* a select names a constant; place: select */
     LOADER_NAME_ENDS = 30,            /* name ends fall, pass the name bytes, or aren't one per slot; place 0 */
     LOADER_TEXT_TOO_SHORT = 31,       /* text buffer too short for the whole text; place 0 */
-    LOADER_TOO_MANY_ELEMENTS = 40,    /* a swap state of over 48 elements, given or asked for; place 0 */
+    LOADER_TOO_MANY_ELEMENTS = 40,    /* a swap state of more elements than fit, given or asked for; place 0 */
     LOADER_TYPE_TABLE = 50,           /* a table of types is of odd length or isn't strictly ascending by attribute; place 0 */
     LOADER_NO_SUCH_ATTRIBUTE = 51,    /* an attribute is not in the table of types; place: statement */
     LOADER_TYPE_CLASH = 52,           /* a variable is used as two types; place: statement */
@@ -133,7 +133,7 @@ struct loader_plan {
     uint64_t select[LOADER_MAX_SELECTS]; /* slots */
 };
 
-/* A swap state: its steps list every order of the elements. Any words are one; of over 48 elements it is refused, 40. */
+/* A swap state: its steps list every order of the elements. Any words are one; of more than LOADER_MAX_ELEMENTS elements it is refused, 40. */
 struct loader_swaps {
     uint64_t element_count;
     uint64_t position; /* where the next step looks first */

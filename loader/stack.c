@@ -66,8 +66,8 @@ int main(void)
         { "permutations", permutations_it }, { "next_swap", swap_it },
     };
     size_t most = 0;
-    /* 48 statements (variable i, attribute 1, constant 1), so that each scan finds the one fact, and each attribute has a type; six of them for the search. */
-    query.variable_count = 48;
+    /* as many statements as fit (variable i, attribute 1, constant 1), so that each scan finds the one fact, and each attribute has a type; six of them for the search. */
+    query.variable_count = LOADER_MAX_STATEMENTS;
     query.statement_count = LOADER_MAX_STATEMENTS;
     query.select_count = LOADER_MAX_SELECTS;
     for (uint64_t i = 0; i < LOADER_MAX_STATEMENTS; i++)

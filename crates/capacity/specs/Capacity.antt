@@ -1,9 +1,9 @@
--- 01, "What crosses the counter": the one place of the definitions that has the capacities.
+-- 01, "What crosses the counter", as 02's Ticket 6 raises it: the one place of the definitions that has the capacities.
 use Prim.Native.Nat.{ℕ}
 
 -- statements or scans, and as many elements for swaps
 abbrev pub maxStatements : ℕ
-maxStatements = 48
+maxStatements = 63
 
 abbrev pub maxScans : ℕ
 maxScans = maxStatements
@@ -13,7 +13,7 @@ maxElements = maxStatements
 
 -- slots: variables and constants
 abbrev pub maxSlots : ℕ
-maxSlots = 96
+maxSlots = 126
 
 -- selects; the fewest is 1
 abbrev pub maxSelects : ℕ

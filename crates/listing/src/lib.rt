@@ -13,6 +13,7 @@ use plan::Index;
 use plan::Plan;
 use plan::Scan;
 use refusal::Verdict;
+use refusal::refuse;
 ghost use mathlib.Core.Path.{_≡_};
 ghost use Rattle.listing.specs.Next.{nextIndex, isNewIndex, nextScan, nextOfScans, nextPlanOf};
 
@@ -69,13 +70,27 @@ pub fn next(plan: Plan) -> NextPlan
 pub fn next_scans(scans: [Scan; MAX_SCANS], scan_count: usize) -> NextScans
     ensures { λ r. ⌜ r ≡ nextOfScans scans «scan_count» ⌝ }
 {
-    let verdict = plan::check_scan_flows(scans, scan_count);
-    if let Verdict::Refused(_) = verdict {
+    // What `plan::check_scan_flows` says, without a copy of the scans for it.
+    if MAX_SCANS < scan_count {
+        let verdict = refuse(refusal::PLAN_COUNTS, 0);
         return NextScans {
             verdict,
             is_new: false,
             scans,
         };
+    }
+    let mut checked = 0;
+    while checked < scan_count {
+        let scan = scans[checked];
+        if plan::is_out_out_eavt(scan) {
+            let verdict = refuse(refusal::OUT_OUT_EAVT, checked);
+            return NextScans {
+                verdict,
+                is_new: false,
+                scans,
+            };
+        }
+        checked += 1;
     }
     let mut scans = scans;
     let mut i_scan = 0;
