@@ -20,6 +20,7 @@ pub const QUERY_CHECKS: u64 = 8;
 pub const TYPES: u64 = 9;
 pub const IMAGES_WRITTEN: u64 = 10;
 pub const IMAGES_READ: u64 = 11;
+pub const BUILDS: u64 = 12;
 
 // Cases, each with its kind before it, and the answers to them, of whole lines.
 pub type Pair = (String, String);

@@ -1,4 +1,4 @@
-/* Which heater has its level switch bridged? Plans the question, prints the plan's text and cost, and keeps the plan; at the next start
+/* Which heater has its level switch bridged? Builds the tables of the facts, plans the question, prints the plan's text and cost, and keeps the plan; at the next start
    reads it again and evaluates it, several rows a call; then lists the orders in which the heaters may be tried. Attribute 1: a heater's level switch. Attribute 2: a switch's
    state, 9 is bridged. */
 #include "loader.h"
@@ -6,11 +6,13 @@
 
 enum { LEVEL_SWITCH = 1, STATE = 2, BRIDGED = 9 };
 
-/* The facts, three words each and sorted: heaters 10, 11, 12 have switches 20, 21, 22, of which 20 and 22 are bridged. */
-static const uint64_t aevt[] = { 1, 10, 20,  1, 11, 21,  1, 12, 22,  2, 20, 9,  2, 21, 8,  2, 22, 9 };
-static const uint64_t avet[] = { 1, 20, 10,  1, 21, 11,  1, 22, 12,  2, 8, 21,  2, 9, 20,  2, 9, 22 };
-static const uint64_t eavt[] = { 10, 1, 20,  11, 1, 21,  12, 1, 22,  20, 2, 9,  21, 2, 8,  22, 2, 9 };
+/* The facts as the office gives them, three words each (entity, attribute, value), in no order and one of them twice: heaters 10, 11, 12 have
+   switches 20, 21, 22, of which 20 and 22 are bridged. */
+static const uint64_t facts[] = { 22, 2, 9,  11, 1, 21,  20, 2, 9,  12, 1, 22,  11, 1, 21,  10, 1, 20,  21, 2, 8 };
 #define WORDS(table) (sizeof (table) / sizeof (uint64_t))
+
+/* The tables, each with room for all facts. */
+static uint64_t aevt[WORDS(facts)], avet[WORDS(facts)], eavt[WORDS(facts)];
 
 static int refused(const char *call, const struct loader_answer *answer)
 {
@@ -38,8 +40,13 @@ int main(void)
     static const uint64_t ends[] = { 6, 12, 12 }; /* a slot for each variable and each constant: the constant's name is not read */
     const uint8_t *name;
     uint64_t rows[32], from = 0, heaters[] = { 10, 11, 12 }, swap[2], heater;
-    size_t image_length;
+    size_t image_length, length_of_tables;
     int length;
+
+    if (loader_build(facts, WORDS(facts), aevt, WORDS(aevt), avet, WORDS(avet), eavt, WORDS(eavt), &answer) != 0)
+        return refused("build", &answer);
+    length_of_tables = 3 * answer.first;
+    printf("%llu facts\n", (unsigned long long)answer.first);
 
     if (loader_search(&query, order, &plan, &answer) != 0)
         return refused("search", &answer);
@@ -67,7 +74,7 @@ int main(void)
         return refused("restore", &answer);
 
     do {
-        if (loader_evaluate(&kept, aevt, WORDS(aevt), avet, WORDS(avet), eavt, WORDS(eavt), from, rows, WORDS(rows), &answer) != 0)
+        if (loader_evaluate(&kept, aevt, length_of_tables, avet, length_of_tables, eavt, length_of_tables, from, rows, WORDS(rows), &answer) != 0)
             return refused("evaluate", &answer);
         for (uint64_t i = 0; i < answer.first; i++)
             printf("%.*s %llu\n", length, (const char *)name, (unsigned long long)rows[i * kept.select_count]);

@@ -15,7 +15,7 @@
 
    Stack: no call takes more than LOADER_STACK bytes (loader/run measures it).
 
-   A refused call writes its answer, and nothing else: plan, order, types, rows, text, image, swap and swap state stay as they were. */
+   A refused call writes its answer, and nothing else: plan, order, types, tables, rows, text, image, swap and swap state stay as they were. */
 #ifndef LOADER_H
 #define LOADER_H
 #include <stddef.h>
@@ -42,7 +42,7 @@ enum {
    18; plan check 20, 13, then scan by scan 21 to 24, then 25, then select by select 26 or 29; cost and next 20, 21, cost then 27;
    evaluation the plan check, 1, 2, 3; text the plan check, 30, 31; a select's name the plan check, 30, 26; swaps 40; types 10 to 16, 50,
    then statement by statement 52 of its entity, 51, 52 of its value; storing the plan check, 64; restoring 60 to 63 and 20 as they are met,
-   then the plan check. Within a number the lowest place is given. */
+   then the plan check; building 70, 71. Within a number the lowest place is given. */
 enum loader_refusal {
     LOADER_FINE = 0,                  /* not refused */
     LOADER_TABLE_LENGTH = 1,          /* a table's length is no multiple of 3, or lengths differ; place 0 */
@@ -77,7 +77,9 @@ enum loader_refusal {
     LOADER_NO_SUCH_CODE = 61,         /* a code 3, which is no index and no flow */
     LOADER_PAD_NOT_ZERO = 62,         /* a pad bit is not zero */
     LOADER_BYTE_TOO_MANY = 63,        /* a byte too many */
-    LOADER_NO_ROOM_FOR_IMAGE = 64     /* image buffer too short for the whole image; place 0 */
+    LOADER_NO_ROOM_FOR_IMAGE = 64,    /* image buffer too short for the whole image; place 0 */
+    LOADER_HEAP_LENGTH = 70,          /* a heap's length is no multiple of 3; place 0 */
+    LOADER_BUFFER_TOO_SHORT = 71      /* a buffer for a table is shorter than the heap; place 0 */
 };
 
 /* What a call answers, besides what it returns. A call writes all four words. */
@@ -177,6 +179,12 @@ uint64_t loader_cost(const struct loader_plan *plan, struct loader_answer *answe
    attribute, value). Each table holds all facts, strictly ascending word by word. A length is in words. Refusals 1 to 3. */
 uint64_t loader_tables(const uint64_t *aevt, size_t aevt_length, const uint64_t *avet, size_t avet_length, const uint64_t *eavt, size_t eavt_length,
                        struct loader_answer *answer);
+
+/* The three tables of a heap of facts, three words each (entity, attribute, value), in any order and with repeats: sorted, repeats dropped.
+   Each buffer must be as long as the heap. `first` is how many rows each table then has; words past its rows stay. The tables pass
+   loader_tables. The heap is only read. Lengths are in words. Refusals 70, 71. */
+uint64_t loader_build(const uint64_t *heap, size_t heap_length, uint64_t *aevt, size_t aevt_length, uint64_t *avet, size_t avet_length, uint64_t *eavt,
+                      size_t eavt_length, struct loader_answer *answer);
 
 /* Evaluate a plan: write its rows from number `from` on, one after the other, as many whole ones as fit in `rows_length` words. A row is
    `select_count` words. `first` is how many rows were written, `second` 1 where another follows, else 0. Words past the last row stay.

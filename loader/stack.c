@@ -6,7 +6,7 @@
 #include <stdio.h>
 #include <string.h>
 
-enum { ROOM = 1 << 20, PATTERN = 0x5a };
+enum { ROOM = 1 << 20, PATTERN = 0x5a, HEAP_ROWS = 1 << 16 };
 
 static struct loader_query query, small;
 static struct loader_plan plan, stepped;
@@ -15,6 +15,7 @@ static struct loader_swaps swaps;
 static uint64_t order[LOADER_MAX_SEARCHED], swap[2], rows[64], ends[LOADER_MAX_SLOTS], types[LOADER_MAX_SLOTS];
 static size_t image_length;
 static const uint64_t table[] = { 1, 1, 1 }, attributes[] = { 0, 9, 1, 9, 2, 9 };
+static uint64_t heap[3 * HEAP_ROWS], aevt[3 * HEAP_ROWS], avet[3 * HEAP_ROWS], eavt[3 * HEAP_ROWS];
 static uint8_t text[1 << 16], image[LOADER_MAX_IMAGE], stack[ROOM] __attribute__((aligned(4096)));
 
 static void plan_it(void) { loader_plan(&query, &plan, &answer); }
@@ -24,6 +25,7 @@ static void next_it(void) { loader_next(&stepped, &answer); }
 static void check_it(void) { loader_check(&plan, &answer); }
 static void cost_it(void) { loader_cost(&stepped, &answer); } /* the full plan costs too much: 27 */
 static void tables_it(void) { loader_tables(table, 3, table, 3, table, 3, &answer); }
+static void build_it(void) { loader_build(heap, 3 * HEAP_ROWS, aevt, 3 * HEAP_ROWS, avet, 3 * HEAP_ROWS, eavt, 3 * HEAP_ROWS, &answer); }
 static void evaluate_it(void) { loader_evaluate(&plan, table, 3, table, 3, table, 3, 0, rows, 64, &answer); }
 static void text_it(void) { loader_text(&plan, (const uint8_t *)"", 0, ends, plan.slot_count, text, sizeof text, &answer); }
 static void name_it(void) { loader_select_name(&plan, (const uint8_t *)"", 0, ends, plan.slot_count, 0, &answer); }
@@ -61,7 +63,7 @@ int main(void)
 {
     static const struct { const char *name; void (*call)(void); } calls[] = {
         { "plan", plan_it }, { "search", search_it }, { "types", types_it }, { "next", next_it }, { "check", check_it },
-        { "cost", cost_it }, { "tables", tables_it }, { "evaluate", evaluate_it }, { "text", text_it },
+        { "cost", cost_it }, { "tables", tables_it }, { "build", build_it }, { "evaluate", evaluate_it }, { "text", text_it },
         { "select_name", name_it }, { "store", store_it }, { "restore", restore_it },
         { "permutations", permutations_it }, { "next_swap", swap_it },
     };
@@ -72,6 +74,9 @@ int main(void)
     query.select_count = LOADER_MAX_SELECTS;
     for (uint64_t i = 0; i < LOADER_MAX_STATEMENTS; i++)
         query.statements[i] = (struct loader_statement){ .entity = i, .attribute = 1, .is_constant = 1, .value = 1 };
+    /* A heap of many rows, the last first: building calls itself on halves. */
+    for (uint64_t i = 0; i < 3 * HEAP_ROWS; i++)
+        heap[i] = 3 * HEAP_ROWS - i;
     small = query;
     small.variable_count = small.statement_count = LOADER_MAX_SEARCHED;
     small.select_count = 1;

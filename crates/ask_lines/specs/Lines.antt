@@ -1,14 +1,25 @@
--- docs/LAYOUT.md, "What it writes": a refusal, the cost, and rows.
+-- docs/LAYOUT.md, "What it writes": the line for input outside the layout, a refusal, the cost, and rows.
 use Prim.Native.Nat.{ℕ, _-_}
 use mathlib.Core.Bool.{cond}
 use mathlib.Core.List.{List, [], _∷_, _++_}
 use lib.Dec.{leb}
+use Rattle.refusal.specs.declared.Verdict.{Verdict}
+use Rattle.refusal.specs.declared.Verdict.the-variants.{Fine, Refused}
 use Rattle.text_pieces.specs.Ascii.{ascii}
 use Rattle.text_pieces.specs.Decimal.{decimal}
+
+-- input outside the layout
+abbrev pub outsideLine : List ℕ
+outsideLine = ascii "outside the layout\n"
 
 -- a refusal is its number and its place
 unfoldable pub refusalLine : ℕ → ℕ → List ℕ
 refusalLine number place = ascii "refused " ++ decimal number ++ ascii " at " ++ decimal place ++ ascii "\n"
+
+-- of a verdict: its refusal, alone
+abbrev pub refusalText : Verdict → List ℕ
+refusalText Fine = []
+refusalText (Refused r) = refusalLine (r .number) (r .place)
 
 -- the cost stands on a line of its own, after the last line of the plan text
 unfoldable pub costLine : ℕ → List ℕ

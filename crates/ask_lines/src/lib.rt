@@ -4,7 +4,14 @@ use text_pieces::write;
 use text_pieces::write_decimal;
 ghost use mathlib.Core.Path.{_≡_};
 ghost use Rattle.text_pieces.specs.Written.{Written};
-ghost use Rattle.ask_lines.specs.Lines.{refusalLine, costLine, wordText, leftAfter, rowLines};
+ghost use Rattle.ask_lines.specs.Lines.{outsideLine, refusalLine, costLine, wordText, leftAfter, rowLines};
+
+// Input outside the layout.
+pub fn write_outside(start: usize, out: &mut [u8]) -> usize
+    ensures { λ r. ⌜ Written outsideLine start (now (out .entry)) r (now (out .exit)) ⌝ }
+{
+    write(b"outside the layout\n", start, out)
+}
 
 // A refusal, alone.
 pub fn write_refusal(number: u8, place: usize, start: usize, out: &mut [u8]) -> usize

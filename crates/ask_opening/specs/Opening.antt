@@ -5,13 +5,11 @@ use mathlib.Core.Bool.{Bool, true, false, cond}
 use mathlib.Core.List.{List, [], _++_}
 use lib.ListN.{length}
 use Rattle.refusal.specs.declared.Verdict.{Verdict}
-use Rattle.refusal.specs.declared.Verdict.the-variants.{Fine, Refused}
 use Rattle.refusal.specs.Verdict.{orElse, unless}
 use Rattle.plan.specs.declared.Plan.{Plan}
 use Rattle.plan.specs.Plan.{emptyPlan}
-use Rattle.text_pieces.specs.Ascii.{ascii}
 use Rattle.text_pieces.specs.Written.{Written}
-use Rattle.ask_lines.specs.Lines.{refusalLine, costLine}
+use Rattle.ask_lines.specs.Lines.{outsideLine, refusalText, costLine}
 use Rattle.plan_text.specs.Text.{textOf}
 use Rattle.plan_text.specs.Answer.{textFault}
 use Rattle.eval.specs.Evaluation.{evaluationFault}
@@ -40,13 +38,9 @@ only text = record { rows = false; plan = emptyPlan; text = text }
 
 -- the numbers are not a question
 abbrev pub outside : Said
-outside = only (ascii "outside the layout\n")
+outside = only outsideLine
 
 -- a refusal, alone
-abbrev pub refusalText : Verdict → List ℕ
-refusalText Fine = []
-refusalText (Refused r) = refusalLine (r .number) (r .place)
-
 abbrev pub refusal : Verdict → Said
 refusal v = only (refusalText v)
 

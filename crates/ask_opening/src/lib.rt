@@ -12,13 +12,13 @@ ghost use Prim.Native.Nat.{_-_};
 ghost use lib.ListN.{length};
 ghost use Rattle.refusal.specs.declared.Verdict.the-variants.{Fine};
 ghost use Rattle.plan.specs.Plan.{emptyPlan};
-ghost use Rattle.ask_lines.specs.Lines.{refusalLine, costLine};
+ghost use Rattle.ask_lines.specs.Lines.{refusalLine, refusalText, costLine};
 ghost use Rattle.plan_text.specs.Text.{textOf};
 ghost use Rattle.plan_text.specs.Answer.{textFault};
 ghost use Rattle.eval.specs.Evaluation.{evaluationFault};
 ghost use Rattle.ask_question.specs.Parts.{partsOf};
 ghost use Rattle.ask_opening.specs.Question.{namesOf, isQuestion, endsOf, tablesIn};
-ghost use Rattle.ask_opening.specs.Opening.{costBytes, refusalText, outside, showingFault, openedWith, openingOf, Line, Opens};
+ghost use Rattle.ask_opening.specs.Opening.{costBytes, outside, showingFault, openedWith, openingOf, Line, Opens};
 ghost use Rattle.ask_opening.specs.Opening.{refusal as Opening·refusal};
 
 // Whether rows follow, and of which plan; and how many bytes are written before them.
@@ -72,7 +72,7 @@ fn is_question(words: &[u64], parts: Parts) -> bool
 fn say_outside(out: &mut [u8]) -> Opening
     ensures { λ r. ⌜ Opens outside (now (out .entry)) r (now (out .exit)) ⌝ }
 {
-    let size = text_pieces::write(b"outside the layout\n", 0, out);
+    let size = ask_lines::write_outside(0, out);
     only(size)
 }
 

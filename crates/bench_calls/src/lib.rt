@@ -1,4 +1,4 @@
-// Evaluation and the search as C functions, for the benchmarks (bench/run). A plan or a query comes as decimal numbers (`replay_given`).
+// Evaluation, the search and the builder of tables as C functions, for the benchmarks (bench/run). A plan or a query comes as decimal numbers (`replay_given`).
 use refusal::Verdict;
 use replay_given::given;
 
@@ -45,4 +45,16 @@ pub extern "C" fn timed_search(text: &[u8]) -> u64 {
         Verdict::Refused(_) => 0,
         Verdict::Fine => found.cost,
     }
+}
+
+// Build three tables. Returns how many rows they have.
+#[no_mangle]
+pub extern "C" fn timed_build(
+    heap: &[u64],
+    aevt: &mut [u64],
+    avet: &mut [u64],
+    eavt: &mut [u64],
+) -> usize {
+    let built = tables_build::build(heap, aevt, avet, eavt);
+    built.count
 }

@@ -10,6 +10,8 @@ use Rattle.permutation.specs.Swaps.{freshOf}
 use Rattle.cost.specs.Cost.{costOf}
 use Rattle.plan_check.specs.Check.{checkOf}
 use Rattle.tables.specs.Check.{tablesFault}
+use Rattle.datom.specs.Fact.{aevtRow, avetRow, eavtRow}
+use Rattle.tables_build.specs.Build.{builtRows, buildOf, builtOver}
 use Rattle.visits.specs.Visits.{Tables}
 use Rattle.eval.specs.Evaluation.{evaluateOf, bufferAfter}
 use Rattle.text_names.specs.Names.{selectNameFault}
@@ -17,7 +19,7 @@ use Rattle.plan_text.specs.Answer.{formattedOf, textAfter}
 use Rattle.image.specs.Image.{storedOf, imageAfter}
 use Rattle.image.specs.Read.{planReadOf}
 use Rattle.loader_words.specs.Words.{planOfWords}
-use Rattle.loader.specs.Answers.{answerOf, bit, planAfter, steppedAfter, orderAfter, typesAfter, stateAfter, swapAfter, plannedOf, foundOf, typedOf, steppedOf, swappedOf, evaluatedWords, formattedWords, nameWords, storedWords}
+use Rattle.loader.specs.Answers.{answerOf, bit, planAfter, steppedAfter, orderAfter, typesAfter, stateAfter, swapAfter, plannedOf, foundOf, typedOf, steppedOf, swappedOf, builtWords, evaluatedWords, formattedWords, nameWords, storedWords}
 
 -- a call returns r and leaves a in its answer; and b in a buffer; and c in another
 abbrev Answers : ℕ → List ℕ → ℕ → List ℕ → Type 0
@@ -38,6 +40,9 @@ writes-one n w u r r′ a a′ b b′ p q = (one-answer (p .0) (q .0), one-answe
 writes-two-one : (n : ℕ) (w u v : List ℕ) (r r′ : ℕ) (a a′ b b′ c c′ : List ℕ) → WritesTwo n w u v r a b c → WritesTwo n w u v r′ a′ b′ c′
     → (r ≡ r′) × (a ≡ a′) × (b ≡ b′) × (c ≡ c′)
 writes-two-one n w u v r r′ a a′ b b′ c c′ p q = (one-answer (p .0) (q .0), one-answer (p .1) (q .1), one-answer (p .2) (q .2), one-answer (p .3) (q .3))
+
+abbrev WritesThree : ℕ → List ℕ → List ℕ → List ℕ → List ℕ → ℕ → List ℕ → List ℕ → List ℕ → List ℕ → Type 0
+WritesThree n w u v x r a b c d = (r ≡ n) × (a ≡ w) × (b ≡ u) × (c ≡ v) × (d ≡ x)
 
 module _ (r r′ : ℕ) (a a′ : List ℕ) where
   pub loader-check-one : (plan : List ℕ) → let says = Answers (numberOf (checkOf (planOfWords plan))) (answerOf (checkOf (planOfWords plan)) 0 0) in
@@ -123,3 +128,12 @@ module _ (r r′ : ℕ) (a a′ : List ℕ) where
           let says = WritesTwo (numberOf v) (answerOf v (bit (step .next .«is_some»)) 0) (swapAfter v (step .next .swap) swap) (stateAfter v (step .state) state) in
           says r a b c → says r′ a′ b′ c′ → (r ≡ r′) × (a ≡ a′) × (b ≡ b′) × (c ≡ c′)
       loader-next-swap-one state swap = writes-two-one _ _ _ _ r r′ a a′ b b′ c c′
+
+      pub loader-build-one : (d d′ heap aevt avet eavt : List ℕ) →
+          let built = buildOf heap (length aevt) (length avet) (length eavt) in
+          let v = built .verdict in
+          let says = WritesThree (numberOf v) (builtWords built) (builtOver v (builtRows aevtRow heap) aevt) (builtOver v (builtRows avetRow heap) avet)
+          (builtOver v (builtRows eavtRow heap) eavt) in
+          says r a b c d → says r′ a′ b′ c′ d′ → (r ≡ r′) × (a ≡ a′) × (b ≡ b′) × (c ≡ c′) × (d ≡ d′)
+      loader-build-one d d′ heap aevt avet eavt p q =
+          (one-answer (p .0) (q .0), one-answer (p .1) (q .1), one-answer (p .2) (q .2), one-answer (p .3) (q .3), one-answer (p .4) (q .4))

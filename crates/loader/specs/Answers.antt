@@ -22,6 +22,7 @@ use Rattle.types.specs.declared.Inferred.{Inferred}
 use Rattle.types.specs.Types.{inferredOf}
 use Rattle.listing.specs.declared.NextPlan.{NextPlan}
 use Rattle.listing.specs.Next.{nextPlanOf}
+use Rattle.tables_build.specs.declared.Built.{Built}
 use Rattle.eval.specs.declared.Evaluated.{Evaluated}
 use Rattle.text_names.specs.Names.{selectNameFault, selectNameOf}
 use Rattle.plan_text.specs.declared.Formatted.{Formatted}
@@ -74,6 +75,10 @@ steppedOf plan = nextPlanOf (planOfWords plan)
 
 abbrev pub swappedOf : List ℕ → Step
 swappedOf state = stepOf (stateOfWords state)
+
+-- building: how many rows the tables have
+abbrev pub builtWords : Built → List ℕ
+builtWords b = answerOf (b .verdict) (b .count) 0
 
 -- evaluation: how many rows, and whether another follows
 abbrev pub evaluatedWords : Evaluated → List ℕ

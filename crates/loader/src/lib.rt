@@ -17,6 +17,8 @@ ghost use Rattle.visits.specs.Visits.{tablesOf};
 ghost use Rattle.cost.specs.Cost.{costOf};
 ghost use Rattle.plan_check.specs.Check.{checkOf};
 ghost use Rattle.tables.specs.Check.{tablesFault};
+ghost use Rattle.datom.specs.Fact.{aevtRow, avetRow, eavtRow};
+ghost use Rattle.tables_build.specs.Build.{builtRows, buildOf, builtOver};
 ghost use Rattle.eval.specs.Evaluation.{evaluateOf, bufferAfter};
 ghost use Rattle.refusal.specs.Verdict.{numberOf, placeOf};
 ghost use Rattle.text_names.specs.Names.{selectNameFault};
@@ -25,7 +27,7 @@ ghost use Rattle.image.specs.Image.{storedOf, imageAfter};
 ghost use Rattle.image.specs.Read.{planReadOf};
 ghost use Rattle.permutation.specs.Swaps.{freshOf};
 ghost use Rattle.loader_words.specs.Words.{planOfWords};
-ghost use Rattle.loader.specs.Answers.{answerOf, bit, planAfter, steppedAfter, orderAfter, typesAfter, stateAfter, swapAfter, plannedOf, foundOf, typedOf, steppedOf, swappedOf, evaluatedWords, formattedWords, nameWords, storedWords};
+ghost use Rattle.loader.specs.Answers.{answerOf, bit, planAfter, steppedAfter, orderAfter, typesAfter, stateAfter, swapAfter, plannedOf, foundOf, typedOf, steppedOf, swappedOf, builtWords, evaluatedWords, formattedWords, nameWords, storedWords};
 
 // Where each part of an answer stands, and how many words it has.
 const ANSWER_NUMBER: usize = 0;
@@ -169,6 +171,27 @@ pub extern "C" fn loader_tables(
 {
     let verdict = tables::check_tables(aevt, avet, eavt);
     *answer = answer_of(verdict, 0, 0);
+    number_of(verdict)
+}
+
+// The three tables of a heap of triples: sorted, repeats dropped. Answers how many rows they have. Refusals 70, 71.
+#[no_mangle]
+pub extern "C" fn loader_build(
+    heap: &[u64],
+    aevt: &mut [u64],
+    avet: &mut [u64],
+    eavt: &mut [u64],
+    answer: &mut [u64; ANSWER_WORDS],
+) -> u64
+    ensures { λ r. ⌜ r ≡ numberOf (buildOf (now (heap .entry)) (length (now (aevt .entry))) (length (now (avet .entry))) (length (now (eavt .entry))) .verdict) ⌝ }
+    ensures { λ r. ⌜ now (answer .exit) ≡ builtWords (buildOf (now (heap .entry)) (length (now (aevt .entry))) (length (now (avet .entry))) (length (now (eavt .entry)))) ⌝ }
+    ensures { λ r. ⌜ now (aevt .exit) ≡ builtOver (buildOf (now (heap .entry)) (length (now (aevt .entry))) (length (now (avet .entry))) (length (now (eavt .entry))) .verdict) (builtRows aevtRow (now (heap .entry))) (now (aevt .entry)) ⌝ }
+    ensures { λ r. ⌜ now (avet .exit) ≡ builtOver (buildOf (now (heap .entry)) (length (now (aevt .entry))) (length (now (avet .entry))) (length (now (eavt .entry))) .verdict) (builtRows avetRow (now (heap .entry))) (now (avet .entry)) ⌝ }
+    ensures { λ r. ⌜ now (eavt .exit) ≡ builtOver (buildOf (now (heap .entry)) (length (now (aevt .entry))) (length (now (avet .entry))) (length (now (eavt .entry))) .verdict) (builtRows eavtRow (now (heap .entry))) (now (eavt .entry)) ⌝ }
+{
+    let built = tables_build::build(heap, aevt, avet, eavt);
+    let verdict = built.verdict;
+    *answer = answer_of(verdict, built.count as u64, 0);
     number_of(verdict)
 }
 

@@ -94,3 +94,8 @@ pub const PAD_NOT_ZERO: u8 = 62;
 pub const BYTE_TOO_MANY: u8 = 63;
 
 pub const NO_ROOM_FOR_IMAGE: u8 = 64;
+
+// Building tables.
+pub const HEAP_LENGTH: u8 = 70;
+
+pub const BUFFER_TOO_SHORT: u8 = 71;

@@ -1,6 +1,7 @@
 // Answers the cases that stand on standard input as decimal numbers: for each its kind, and then what the kind says (docs/REPLAY.md).
 // stdin and stdout hold the stored cases and the Rust's answers to them; `compare/run --make` writes both.
 mod answers;
+mod builds;
 mod evaluations;
 mod over_tables;
 
@@ -43,6 +44,8 @@ const TYPES: u64 = 9;
 const IMAGES_WRITTEN: u64 = 10;
 
 const IMAGES_READ: u64 = 11;
+
+const BUILDS: u64 = 12;
 
 fn main() {
     let mut text = text_buffer();
@@ -89,6 +92,7 @@ fn put_case(text: &[u8], start: usize) -> usize {
         TYPES => typed::put_case(text, next),
         IMAGES_WRITTEN => images::put_written(text, next),
         IMAGES_READ => images::put_read(text, next),
+        BUILDS => builds::put_case(text, next),
         _ => put_unknown(start),
     }
 }

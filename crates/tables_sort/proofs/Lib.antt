@@ -1,0 +1,11 @@
+pub mod Rising
+pub mod Sorted
+pub mod Sorting
+pub mod Parts
+pub mod Filling
+pub mod Lent
+pub mod Halves
+pub mod Appended
+pub mod Gathering
+pub mod Alike
+pub mod Expanded
