@@ -52,6 +52,11 @@ SAME(OUT_OUT);
 SAME(IN_OUT);
 SAME(IN_IN);
 
+/* The longest image, from the widths of its fields. */
+_Static_assert(COUNTS_BITS == SCAN_COUNT_BITS + SLOT_COUNT_BITS + SELECT_COUNT_BITS, "the counts of an image");
+_Static_assert(SCAN_BITS == 2 * CODE_BITS + 2 * SLOT_BITS + WORD_BITS, "a scan of an image");
+_Static_assert(LOADER_MAX_IMAGE == (COUNTS_BITS + (MARK_BITS + WORD_BITS) * MAX_SLOTS + SCAN_BITS * MAX_SCANS + SLOT_BITS * MAX_SELECTS + 7) / 8, "MAX_IMAGE");
+
 /* Each struct's words, and the place of each of its fields. The code names no place for a record's first word. */
 #define IS(words, size) _Static_assert((words) * sizeof(uint64_t) == (size), #words)
 #define AT(place, of, field) _Static_assert((place) * sizeof(uint64_t) == offsetof(struct loader_##of, field), #of ": " #field)

@@ -13,7 +13,8 @@ use Rattle.text_pieces.specs.Written.{after}
 use Rattle.ask_opening.specs.Question.{tablesIn}
 use Rattle.ask_opening.specs.Opening.{lineBytes, openingOf}
 use Rattle.ask_rows.specs.declared.Window.{Window}
-use Rattle.ask_rows.specs.Windows.{wordBytes, lastBytes, windowOf, rowsAfter, outAfter}
+use Rattle.ask_lines.specs.Lines.{wordBytes}
+use Rattle.ask_rows.specs.Windows.{lastBytes, windowOf, rowsAfter, outAfter}
 use Rattle.ask_answer.specs.declared.Part.{Part}
 use Rattle.ask_answer.specs.Capacity.{textBytes}
 use Rattle.ask_answer.specs.Answer.{isRead, firstRow, rowsAsked}

@@ -29,6 +29,10 @@ costLine cost = ascii "\ncost " ++ decimal cost ++ ascii "\n"
 unfoldable pub wordText : ℕ → ℕ → List ℕ
 wordText word left = decimal word ++ cond (leb left 1) (ascii "\n") (ascii " ")
 
+-- the longest text of a word: its digits, and a space or a line feed
+abbrev pub wordBytes : ℕ
+wordBytes = 21
+
 -- how many words of a row are left after one
 unfoldable pub leftAfter : ℕ → ℕ → ℕ
 leftAfter left width = cond (leb left 1) width (left - 1)

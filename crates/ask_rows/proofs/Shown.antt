@@ -13,14 +13,14 @@ use Rattle.refusal.specs.Verdict.{unless}
 use Rattle.plan.specs.declared.Plan.{Plan}
 use Rattle.text_pieces.specs.Written.{Written}
 use Rattle.text_pieces.proofs.Written.{written-then}
-use Rattle.ask_lines.specs.Lines.{rowLines}
+use Rattle.ask_lines.specs.Lines.{rowLines, wordBytes}
 use Rattle.visits.specs.Visits.{Tables}
 use Rattle.visits.specs.Window.{filled}
 use Rattle.eval.specs.declared.Evaluated.{Evaluated}
 use Rattle.eval.specs.Evaluation.{evaluationFault}
 use Rattle.ask_rows.specs.declared.Step.{Step}
 use Rattle.ask_rows.proofs.Stepped.{step-falls}
-use Rattle.ask_rows.specs.Windows.{linesOf, lastLine, shownOf, moreOf, stepOf, windowStep, endText, windowText, wordBytes, lastBytes, refusedWindow, shownWindow, windowOf, rowsAfter, outAfter, Front, Fills, ShowsWindow}
+use Rattle.ask_rows.specs.Windows.{linesOf, lastLine, shownOf, moreOf, stepOf, windowStep, endText, windowText, lastBytes, refusedWindow, shownWindow, windowOf, rowsAfter, outAfter, Front, Fills, ShowsWindow}
 
 -- the last line is at most so long
 end-short : (last more : Bool) → length (endText last more) ≤ lastBytes

@@ -12,7 +12,7 @@ use Rattle.refusal.specs.Verdict.{unless}
 use Rattle.plan.specs.declared.Plan.{Plan}
 use Rattle.text_pieces.specs.Ascii.{ascii}
 use Rattle.text_pieces.specs.Written.{largest, after}
-use Rattle.ask_lines.specs.Lines.{rowLines}
+use Rattle.ask_lines.specs.Lines.{rowLines, wordBytes}
 use Rattle.tables.specs.Rows.{flat}
 use Rattle.visits.specs.Visits.{Tables, rowList}
 use Rattle.visits.specs.Window.{filled}
@@ -71,10 +71,7 @@ windowsText (suc n) p ts from left room =
     windowText p ts from left room
     ++ cond (windowStep p ts from left room .last) [] (windowsText n p ts (windowStep p ts from left room .from) (windowStep p ts from left room .left) room)
 
--- the longest text of a word, its digits and a space; and of the last line
-abbrev pub wordBytes : ℕ
-wordBytes = 21
-
+-- the longest last line
 abbrev pub lastBytes : ℕ
 lastBytes = 13
 

@@ -8,7 +8,8 @@ ghost use lib.ListN.{length, take};
 ghost use Rattle.text_pieces.specs.Written.{Written};
 ghost use Rattle.ask_lines.specs.Lines.{rowLines};
 ghost use Rattle.visits.specs.Visits.{tablesOf};
-ghost use Rattle.ask_rows.specs.Windows.{isLast, stepOf, endText, wordBytes, Fills, ShowsWindow};
+ghost use Rattle.ask_lines.specs.Lines.{wordBytes};
+ghost use Rattle.ask_rows.specs.Windows.{isLast, stepOf, endText, Fills, ShowsWindow};
 
 // Whether evaluation is refused; how many bytes were written, whether this window is the last, and how the next one begins: the number
 // of its first row, and how many are left to show.

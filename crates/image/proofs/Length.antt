@@ -15,19 +15,19 @@ use Rattle.lists.specs.Laid.{laid}
 use Rattle.lists.proofs.Laid.{laid-length}
 use Rattle.bits.specs.Bits.{bits, padding}
 use Rattle.bits.proofs.Laws.{bits-length, packed-length}
-use Rattle.image.specs.Image.{definitionBits, slotBits, scanBits, selectBits, planBits, imageOf, constantIn, constantsIn}
+use Rattle.image.specs.Image.{definitionBits, slotBits, scanBits, selectBits, planBits, imageOf, mark, marksIn}
 use Rattle.image.proofs.Below.{plan-below}
 
 pub scan-length : (s : Scan) → length (scanBits s) ≡ 82
 scan-length s =
     rw (length-append, length-append, length-append, length-append) (omega (arith, bits-length 2 (indexCode (s .index)), bits-length 2 (flowCode (s .flow)), bits-length 7 (s .entity .0), bits-length 64 (s .attribute .0), bits-length 7 (s .value .0)))
 
-slots-length : (l : List SlotRecord) → length (laid slotBits l) ≡ length l + 64 * constantsIn l
-unfolding laid constantsIn
+slots-length : (l : List SlotRecord) → length (laid slotBits l) ≡ length l + 64 * marksIn l
+unfolding laid marksIn
 slots-length [] = refl
 slots-length (s ∷ l) = length-append (slotBits s) (laid slotBits l) ∙ rw (slots-length l) (one (s .definition))
   where
-    one : (d : SlotDefinition) → length (definitionBits d) + (length l + 64 * constantsIn l) ≡ suc (length l) + 64 * (constantIn d + constantsIn l)
+    one : (d : SlotDefinition) → length (definitionBits d) + (length l + 64 * marksIn l) ≡ suc (length l) + 64 * (mark d + marksIn l)
     one Variable = omega arith
     one (Constant v) = let e : length (1 ∷ bits 64 v) ≡ 65 = ap suc (bits-length 64 v) in omega arith
 
@@ -43,7 +43,7 @@ plan-bits p =
     simp length-append (omega arith)
 
 pub plan-length : (p : Plan)
-    → length (planBits p) ≡ 19 + (length (slotsOf p) + 64 * constantsIn (slotsOf p)) + 82 * length (scansOf p) + 7 * length (slotsSelected p)
+    → length (planBits p) ≡ 19 + (length (slotsOf p) + 64 * marksIn (slotsOf p)) + 82 * length (scansOf p) + 7 * length (slotsSelected p)
 plan-length p = plan-bits p ∙ rw (slots-length (slotsOf p)) refl
 
 -- the bytes of an image: its bits, rounded up
@@ -61,12 +61,12 @@ pub definition-few : (d : SlotDefinition) → length (definitionBits d) ≤ 65
 definition-few Variable = omega arith
 definition-few (Constant v) = omega (arith, constant-length v)
 
-constants-few : (l : List SlotRecord) → constantsIn l ≤ length l
-unfolding constantsIn
+constants-few : (l : List SlotRecord) → marksIn l ≤ length l
+unfolding marksIn
 constants-few [] = omega arith
 constants-few (s ∷ l) = let h = constants-few l in one (s .definition) h
   where
-    one : (d : SlotDefinition) → constantsIn l ≤ length l → constantIn d + constantsIn l ≤ suc (length l)
+    one : (d : SlotDefinition) → marksIn l ≤ length l → mark d + marksIn l ≤ suc (length l)
     one Variable h = omega arith
     one (Constant v) h = omega arith
 

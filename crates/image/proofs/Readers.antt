@@ -21,7 +21,7 @@ use Rattle.plan.specs.declared.Flow.the-variants.{OutOut, InOut, InIn}
 use Rattle.plan.specs.Plan.{variableSlot}
 use Rattle.plan.proofs.Codes.{index-code-back, flow-code-back}
 use Rattle.bits.specs.Bits.{bits}
-use Rattle.image.specs.Image.{definitionBits, slotBits, scanBits, selectBits}
+use Rattle.image.specs.Image.{mark, definitionBits, slotBits, scanBits, selectBits}
 use Rattle.image.specs.Read.{Parsed, met, andThen, unlessFault, field, code, slotNumbered, slot, scan, select}
 use Rattle.image.specs.Fits.{DefinitionHeld, SlotHeld, ScanHeld, SelectHeld}
 use Rattle.image.proofs.Codec.{Codec, codec-field, codec-then, codec-map, codec-guard, codec-none, codec-as}
@@ -57,13 +57,9 @@ codec-select =
     (codec-map (field 7) (bits 7) (λ n. n < 2 ^ 7) (codec-field 7) slotNumbered (λ k. k .0) (λ n h. refl))
 
 -- a slot
-abbrev mark : SlotDefinition → ℕ
-mark Variable = 0
-mark (Constant v) = 1
-
-abbrev constantIn : SlotDefinition → ℕ
-constantIn Variable = 0
-constantIn (Constant v) = v
+abbrev heldConstant : SlotDefinition → ℕ
+heldConstant Variable = 0
+heldConstant (Constant v) = v
 
 abbrev constantBits : SlotDefinition → List ℕ
 constantBits Variable = []
@@ -82,15 +78,15 @@ unmarked-fro : (d : SlotDefinition) → (mark d ≡ 0) × DefinitionHeld d → V
 unmarked-fro Variable h = refl
 unmarked-fro (Constant v) h = absurd (let e : 1 ≡ 0 = h .0 in omega arith)
 
-marked-to : (d : SlotDefinition) → (constantIn d < 2 ^ 64) × (Constant (constantIn d) ≡ d) → (mark d ≡ 1) × DefinitionHeld d
+marked-to : (d : SlotDefinition) → (heldConstant d < 2 ^ 64) × (Constant (heldConstant d) ≡ d) → (mark d ≡ 1) × DefinitionHeld d
 marked-to Variable h = absurd (let z : _≡_ {A = ℕ} 0 1 = cc in omega arith)
 marked-to (Constant v) h = (refl, h .0)
 
-marked-fro : (d : SlotDefinition) → (mark d ≡ 1) × DefinitionHeld d → (constantIn d < 2 ^ 64) × (Constant (constantIn d) ≡ d)
+marked-fro : (d : SlotDefinition) → (mark d ≡ 1) × DefinitionHeld d → (heldConstant d < 2 ^ 64) × (Constant (heldConstant d) ≡ d)
 marked-fro Variable h = absurd (let e : 0 ≡ 1 = h .0 in omega arith)
 marked-fro (Constant v) h = (h .1, refl)
 
-marked-same : (d : SlotDefinition) → (Constant (constantIn d) ≡ d) → bits 64 (constantIn d) ≡ constantBits d
+marked-same : (d : SlotDefinition) → (Constant (heldConstant d) ≡ d) → bits 64 (heldConstant d) ≡ constantBits d
 marked-same Variable h = absurd (let z : _≡_ {A = ℕ} 0 1 = cc in omega arith)
 marked-same (Constant v) h = refl
 
@@ -100,11 +96,11 @@ slot-end zero h =
     codec-as (rest 0) (λ _. []) (λ s. constantBits (s .definition)) (λ s. variableSlot ≡ s) (Marked 0)
     (λ s e. rw (← e) (refl, tt)) (λ s e. ap (λ (d : SlotDefinition). record { definition = d }) (unmarked-fro (s .definition) e)) (λ s e. rw (← e) refl) (codec-none variableSlot)
 slot-end (suc zero) h =
-    codec-as (rest 1) (λ s. bits 64 (constantIn (s .definition))) (λ s. constantBits (s .definition)) (λ s. (constantIn (s .definition) < 2 ^ 64) × (constantSlot (constantIn (s .definition)) ≡ s)) (Marked 1)
+    codec-as (rest 1) (λ s. bits 64 (heldConstant (s .definition))) (λ s. constantBits (s .definition)) (λ s. (heldConstant (s .definition) < 2 ^ 64) × (constantSlot (heldConstant (s .definition)) ≡ s)) (Marked 1)
     (λ s e. marked-to (s .definition) (e .0, ap (λ (r : SlotRecord). r .definition) (e .1)))
     (λ s e. let m = marked-fro (s .definition) e in (m .0, ap (λ (d : SlotDefinition). record { definition = d }) (m .1)))
     (λ s e. marked-same (s .definition) (ap (λ (r : SlotRecord). r .definition) (e .1)))
-    (codec-map (field 64) (bits 64) (λ n. n < 2 ^ 64) (codec-field 64) constantSlot (λ s. constantIn (s .definition)) (λ v h. refl))
+    (codec-map (field 64) (bits 64) (λ n. n < 2 ^ 64) (codec-field 64) constantSlot (λ s. heldConstant (s .definition)) (λ v h. refl))
 slot-end (suc (suc k)) h = absurd (let e : suc (suc k) < 2 = h in omega arith)
 
 mark-lt : (d : SlotDefinition) → mark d < 2 ^ 1

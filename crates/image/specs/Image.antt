@@ -27,14 +27,14 @@ definitionBits (Constant v) = 1 ∷ bits 64 v
 abbrev pub slotBits : SlotRecord → List ℕ
 slotBits s = definitionBits (s .definition)
 
--- how many of them are constants
-abbrev pub constantIn : SlotDefinition → ℕ
-constantIn Variable = 0
-constantIn (Constant v) = 1
+-- that one bit; and how many slots are constants
+abbrev pub mark : SlotDefinition → ℕ
+mark Variable = 0
+mark (Constant v) = 1
 
-unfoldable pub constantsIn : List SlotRecord → ℕ
-constantsIn [] = 0
-constantsIn (s ∷ ss) = constantIn (s .definition) + constantsIn ss
+unfoldable pub marksIn : List SlotRecord → ℕ
+marksIn [] = 0
+marksIn (s ∷ ss) = mark (s .definition) + marksIn ss
 
 -- per scan index 2, flow 2, entity 7, attribute 64, value 7
 abbrev pub scanBits : Scan → List ℕ

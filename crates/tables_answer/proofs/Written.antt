@@ -15,13 +15,13 @@ use Rattle.datom.specs.Fact.{words, aevtRow, avetRow, eavtRow}
 use Rattle.text_pieces.specs.Ascii.{ascii}
 use Rattle.text_pieces.specs.Decimal.{decimal}
 use Rattle.text_pieces.specs.Written.{Written}
-use Rattle.ask_lines.specs.Lines.{outsideLine, refusalLine, refusalText, rowLines}
+use Rattle.ask_lines.specs.Lines.{outsideLine, refusalLine, refusalText, rowLines, wordBytes}
 use Rattle.ask_lines.proofs.Lengths.{word-short, refusal-short, rows-short}
 use Rattle.tables.specs.Rows.{flat}
 use Rattle.tables_build.specs.declared.Built.{Built}
 use Rattle.tables_build.specs.Build.{heapFault, builtRows, buildOf, builtOver}
 use Rattle.tables_build.proofs.Theorem.{aevt-long, avet-long, eavt-long}
-use Rattle.tables_answer.specs.Capacity.{heapWords, wordBytes, answerBytes}
+use Rattle.tables_answer.specs.Capacity.{heapWords, answerBytes}
 use Rattle.tables_answer.specs.Answer.{tablePart, tableParts, heapAnswerFor, heapAnswerTo}
 use Rattle.tables_answer.specs.Reads.{ReadsHeap}
 

@@ -1,5 +1,6 @@
 -- docs/LAYOUT.md, "The tables of a heap": the program's capacities.
 use Prim.Native.Nat.{ℕ, _+_, _*_}
+use Rattle.ask_lines.specs.Lines.{wordBytes}
 
 -- a text is shorter than this many bytes
 abbrev pub textBytes : ℕ
@@ -8,10 +9,6 @@ textBytes = 1048576
 -- and its heap has at most this many words
 abbrev pub heapWords : ℕ
 heapWords = 33000
-
--- the longest text of a word, its digits and a space or a line feed
-abbrev pub wordBytes : ℕ
-wordBytes = 21
 
 -- the longest answer: three tables as long as the heap, each with its count
 abbrev pub answerBytes : ℕ

@@ -7,7 +7,8 @@ ghost use Prim.Native.Nat.{_+_, _*_, _≤_};
 ghost use lib.ListN.{length, take};
 ghost use Rattle.datom.specs.Fact.{words};
 ghost use Rattle.text_pieces.specs.Written.{Written};
-ghost use Rattle.tables_answer.specs.Capacity.{heapWords, wordBytes, answerBytes};
+ghost use Rattle.ask_lines.specs.Lines.{wordBytes};
+ghost use Rattle.tables_answer.specs.Capacity.{heapWords, answerBytes};
 ghost use Rattle.tables_answer.specs.Answer.{tablePart, tableParts, heapAnswerFor, heapAnswerTo};
 ghost use Rattle.tables_answer.specs.Reads.{ReadsHeap};
 

@@ -18,7 +18,7 @@ use Rattle.tables.specs.Rows.{count, row}
 use Rattle.tables_sort.specs.Sorted.{sortedRows}
 use Rattle.tables_sort.proofs.Sorted.{Even, even-map}
 use Rattle.tables_build.specs.Build.{heapFact, heapRows, heapFault, builtRows, buildOf, builtOver}
-use Rattle.tables_build.specs.Meaning.{Filled}
+use Rattle.tables_build.specs.Meaning.{FilledTable}
 use Rattle.tables_build.proofs.Laid.{filled-is}
 
 -- each buffer is as long as the heap, where this is not refused
@@ -48,5 +48,5 @@ module _ (h : List ℕ) (a b c : ℕ) {v : Verdict} (said : v ≡ heapFault (len
 pub stays : {v : Verdict} {r : Refusal} (rows : List (List ℕ)) (t : List ℕ) → v ≡ Refused r → t ≡ builtOver v rows t
 stays rows t p = rw p
 
-pub fills : {v : Verdict} {wanted : List (List ℕ)} {n : ℕ} {t₀ t : List ℕ} → v ≡ Fine → Even words wanted → Filled wanted n t₀ t → t ≡ builtOver v (sortedRows wanted) t₀
+pub fills : {v : Verdict} {wanted : List (List ℕ)} {n : ℕ} {t₀ t : List ℕ} → v ≡ Fine → Even words wanted → FilledTable wanted n t₀ t → t ≡ builtOver v (sortedRows wanted) t₀
 fills p l g = rw p (filled-is l g)
