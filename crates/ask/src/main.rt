@@ -1,4 +1,6 @@
 // Answers the question that stands on standard input (docs/LAYOUT.md). This only moves bytes: what is written comes from `ask_answer`.
+#![tactic(auto)]
+
 ghost use Rattle.std.specs.Prelude.{◌≡◌, length};
 ghost use Rattle.ask_answer.specs.Capacity.{text_bytes, word_count, window_words};
 

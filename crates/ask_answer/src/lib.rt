@@ -1,5 +1,7 @@
 // The program's answer, part by part (docs/LAYOUT.md): the numbers of a text; what is said of them; and then, window by window, the rows.
 // The parts one after the other are the answer to the text.
+#![tactic(auto)]
+
 ghost use Rattle.std.specs.Prelude.{◌≡◌, ◌-◌, ◌^◌, min, length};
 ghost use Rattle.ask_answer.specs.Parts.{Reads, Begins, GoesOn};
 

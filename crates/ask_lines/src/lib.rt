@@ -1,5 +1,7 @@
 // What the program writes besides the plan text (docs/LAYOUT.md, "What it writes"): each function writes its lines over a lent buffer
 // from a position on, and answers the position after them.
+#![tactic(auto)]
+
 ghost use Rattle.std.specs.Prelude.{◌≡◌};
 ghost use Rattle.text_pieces.specs.Written.{Written};
 ghost use Rattle.ask_lines.specs.Lines.{outside_line, refusal_line, cost_line, word_text, left_after, row_lines};

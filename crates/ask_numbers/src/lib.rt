@@ -1,4 +1,6 @@
 // The numbers of the program's input: a text of decimal numbers becomes words (docs/LAYOUT.md, "Numbers").
+#![tactic(auto)]
+
 ghost use Rattle.std.specs.Prelude.{◌≡◌, false, true, ◌-◌, ◌≤◌, ◌<◌, length, get_or};
 ghost use Rattle.ask_numbers.specs.Words.{space, digit, digit_value, goes_on, read_of, words_after};
 ghost use Rattle.ask_numbers.specs.Words.{longer as Words·longer};

@@ -1,6 +1,8 @@
 // What the program says of a question before any rows (docs/LAYOUT.md, "What it writes"): the plan text and the cost; or, with no rows
 // after it, the first refusal or that the numbers are not a question. `open` finds the parts of the question, and the functions that it
 // calls are given them.
+#![tactic(auto)]
+
 ghost use Rattle.std.specs.Prelude.{◌≡◌, true, false, ◌++◌, ◌-◌, length};
 ghost use Rattle.refusal.specs.declared.Verdict.TheVariants.{Fine};
 ghost use Rattle.plan.specs.Plan.{empty_plan};

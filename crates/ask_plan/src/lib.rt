@@ -1,5 +1,7 @@
 // What the program plans for the question that is asked: in the given order or by the search, once its types are checked where it asks for
 // that; and the plan's cost.
+#![tactic(auto)]
+
 ghost use Rattle.std.specs.Prelude.{◌≡◌};
 ghost use Rattle.ask_plan.specs.Answer.{refused_with, searches as Answer·searches, planned_for, costed_for, planned_with_cost, types_asked, answer_with};
 

@@ -1,6 +1,8 @@
 // What the numbers of the program's input say (docs/LAYOUT.md, "What the numbers say"): a header of four numbers, and eight parts, each
 // a count and then as many items. The table of types is left out, its count too, where the task does not have types checked. `find_parts`
 // finds the parts; the functions that read from them are given the parts that were found.
+#![tactic(auto)]
+
 ghost use Rattle.std.specs.Prelude.{◌≡◌, true, ◌++◌, ◌<◌, ◌≤◌, length, drop, get_or};
 ghost use Rattle.capacity.specs.Capacity.{max_statements};
 ghost use Rattle.ask_question.specs.Parts.{no_part, part_at, checks_types, left_out, types_at, parts_of, items_of, are_kinds, are_bytes, inside_with};

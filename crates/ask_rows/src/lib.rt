@@ -1,4 +1,6 @@
 // The rows that the program shows, window by window (docs/LAYOUT.md, "What it writes").
+#![tactic(auto)]
+
 ghost use Rattle.std.specs.Prelude.{◌≡◌, ◌*◌, ◌/◌, ◌≤◌, min, length, take};
 ghost use Rattle.text_pieces.specs.Written.{Written};
 ghost use Rattle.ask_lines.specs.Lines.{row_lines};

@@ -1,4 +1,6 @@
 // Evaluation, the search and the builder of tables as C functions, for the benchmarks (bench/run). A plan or a query comes as decimal numbers (`replay_given`).
+#![tactic(auto)]
+
 use refusal::Verdict;
 use replay_given::given;
 

@@ -1,6 +1,8 @@
 // The capacities of document 01, "What crosses the counter", as 02's Ticket 6 raises them: this is the one place of the code that has them, and
 // specs/Capacity.antt the one place of the definitions.
 
+#![tactic(auto)]
+
 // A query has at most this many statements; a plan, which has a scan for each, at most as many scans.
 pub const MAX_STATEMENTS: usize = 63;
 

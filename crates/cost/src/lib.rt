@@ -7,6 +7,8 @@
 
 // Port of `Plan::cost` of src/plan.rs to Rattle, changed: the hash sets of what earlier scans used are a look back over those
 // scans, and a plan whose cost would pass 2^64 - 1, or that uses eavt for out-out, is refused with a number.
+#![tactic(auto)]
+
 ghost use Rattle.std.specs.Prelude.{◌≡◌, ◌||◌};
 ghost use Rattle.plan.specs.Plan.{same_index};
 ghost use Rattle.cost.specs.Cost.{same_key, penalty_for, iters_of, cost_of_scans, cost_of};

@@ -1,6 +1,8 @@
 // The part of noblit's datoms that queries, plans and tables name. Entities, values and constants are u64 here.
 
 // An attribute's number. Variables, slots and attributes are three kinds, and are never mixed.
+#![tactic(auto)]
+
 #[derive(Drop)]
 pub struct Aid(pub u64);
 

@@ -7,6 +7,8 @@
 
 // Evaluation (002, reshaped): the plan and the tables are checked, and then a window of the rows goes to a lent buffer. How is private:
 // `walk` steps the nested loops, `rows` fills a window, `setup` lays a plan out for them.
+#![tactic(auto)]
+
 mod rows;
 mod setup;
 mod walk;

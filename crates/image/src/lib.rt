@@ -1,5 +1,7 @@
 // A stored plan, as 02's Ticket 2 says: what writing and reading it answer. The definitions stand in specs/, the code in `image_write` and
 // `image_read`.
+#![tactic(auto)]
+
 use plan::Plan;
 use refusal::Verdict;
 

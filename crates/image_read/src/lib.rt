@@ -1,5 +1,7 @@
 // A stored plan, read as 02's Ticket 2 says: field by field, the first fault met is refused at the byte where its field begins; then the plan
 // check runs. Added: the Rust keeps no plans. `fields` reads a field wherever it begins, `parts` slots, scans and selects.
+#![tactic(auto)]
+
 mod fields;
 mod parts;
 

@@ -1,4 +1,6 @@
 // Writes a stored plan, as 02's Ticket 2 says. Each function puts the bits of its part over those of the buffer, from bit `at` on.
+#![tactic(auto)]
+
 ghost use Rattle.std.specs.Prelude.{◌≡◌, ◌++◌, ◌+◌, ◌*◌, ◌^◌, ◌≤◌, ◌<◌, length, take};
 ghost use Rattle.capacity.specs.Capacity.{max_scans, max_slots, max_selects};
 ghost use Rattle.lists.specs.Laid.{laid};

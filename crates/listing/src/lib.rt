@@ -7,6 +7,8 @@
 
 // Port of `next_scan` and `Planner::next` of src/planner.rs to Rattle, changed: `next` takes the plan and hands it back, and what the
 // Rust panics on is refused with a number.
+#![tactic(auto)]
+
 ghost use Rattle.std.specs.Prelude.{◌≡◌};
 ghost use Rattle.listing.specs.Next.{next_index, is_new_index, next_scan, next_of_scans, next_plan_of};
 

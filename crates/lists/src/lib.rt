@@ -1,1 +1,2 @@
 // Laws only: facts on lists that proofs of several crates cite.
+#![tactic(auto)]

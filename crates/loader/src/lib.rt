@@ -4,6 +4,8 @@
 // Each call answers the refusal's number, 0 where there is none, and writes the whole answer into the four words that are lent for it:
 // the number, the place, and two more that each call names (0 where it has none, or where it is refused). A refused call writes
 // nothing else.
+#![tactic(auto)]
+
 ghost use Rattle.std.specs.Prelude.{◌≡◌, length};
 ghost use Rattle.visits.specs.Visits.{tables_of};
 ghost use Rattle.cost.specs.Cost.{cost_of};

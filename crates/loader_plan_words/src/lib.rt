@@ -1,4 +1,6 @@
 // A plan written as words, as crate `loader_words` reads it; and of a plan that was stepped, the words that a step changes.
+#![tactic(auto)]
+
 ghost use Rattle.std.specs.Prelude.{◌≡◌, ◌+◌, ◌≤◌, length, take};
 ghost use Rattle.loader_words.specs.Words.{scans_at, slots_at, select_at, plan_words, scan_words, slot_words};
 ghost use Rattle.lists.specs.Laid.{laid};

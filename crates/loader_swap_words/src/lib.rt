@@ -1,6 +1,8 @@
 // A swap state as words, for callers in other languages: how many elements, the position, and a counter for each of MAX_ELEMENTS elements.
 //
 // Any words say a state. One of more elements than there are counters is refused by the step (40).
+#![tactic(auto)]
+
 ghost use Rattle.std.specs.Prelude.{◌≡◌};
 ghost use Rattle.loader_swap_words.specs.State.{counters_in, state_of_words, words_of_state};
 

@@ -9,6 +9,8 @@
 //
 // Any words say a plan, and any say a query. Words that no plan of the planner has are read so that the plan check refuses them:
 // see specs/Words.antt.
+#![tactic(auto)]
+
 ghost use Rattle.std.specs.Prelude.{◌≡◌, ◌<◌, min};
 ghost use Rattle.capacity.specs.Capacity.{max_scans, max_slots, max_selects, max_statements};
 ghost use Rattle.query.specs.Query.{largest};

@@ -9,6 +9,8 @@
 // it holds are refused with a number, and the step has a form by value under the one that changes a lent state.
 
 // Support functionality to generate permutations.
+#![tactic(auto)]
+
 ghost use Rattle.std.specs.Prelude.{◌≡◌};
 ghost use Rattle.permutation.specs.Swaps.{elements_fault, fresh_of, next_swap_of};
 

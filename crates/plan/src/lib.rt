@@ -9,6 +9,8 @@
 // name, and what the Rust asserts is refused with a number. The check, the cost and the text are crates of their own (`plan_check`, `cost`, `plan_text`).
 
 // Defines query plans.
+#![tactic(auto)]
+
 ghost use Rattle.std.specs.Prelude.{◌≡◌};
 ghost use Rattle.plan.specs.Codes.{index_code, flow_code, index_of_code, flow_of_code};
 ghost use Rattle.plan.specs.Plan.{slots_in_order, out_out_eavt, is_constant, entity_value_flow, empty_plan, counts_fault, scan_flows_fault, flows_fault};

@@ -7,6 +7,8 @@
 
 // Port of `Plan::check_invariants` of src/plan.rs to Rattle, changed: what the Rust asserts is refused with a number, a scan's
 // slots are tested against the number of slots and not of scans, and the record says of a slot only whether it is set.
+#![tactic(auto)]
+
 ghost use Rattle.std.specs.Prelude.{◌≡◌, ◌≤◌, take, set};
 ghost use Rattle.capacity.specs.Capacity.{max_scans, max_slots, max_selects};
 ghost use Rattle.plan.specs.Plan.{first_access, second_access, is_constant};

@@ -7,6 +7,8 @@
 
 // Port of `impl Debug for Plan` of src/plan.rs to Rattle, changed: the formatter is a lent byte buffer, the names are lent too, and a
 // constant prints in decimal. Each function writes its part of the text from `at` on and answers the position after it.
+#![tactic(auto)]
+
 ghost use Rattle.std.specs.Prelude.{◌≡◌, ◌≤◌, length, take};
 ghost use Rattle.capacity.specs.Capacity.{max_scans, max_slots, max_selects};
 ghost use Rattle.text_pieces.specs.Written.{Written};

@@ -9,6 +9,8 @@
 // number. `next_scan` and `next` are in the crate `listing`.
 
 // The planner translates queries into plans.
+#![tactic(auto)]
+
 ghost use Rattle.std.specs.Prelude.{◌≡◌, ◌+◌, ◌≤◌, ◌<◌, ◌^◌, map, true, false, take, get_or, set};
 ghost use Rattle.capacity.specs.Capacity.{max_slots, max_selects};
 ghost use Rattle.refusal.specs.Verdict.{refused};

@@ -7,6 +7,8 @@
 
 // The lent form of planning: the Rust's `Query` lends its statements and selects as slices, and so does the caller here. They
 // are read into a query by value, which is what the crate `planner` works on.
+#![tactic(auto)]
+
 ghost use Rattle.std.specs.Prelude.{◌≡◌, [], ◌+◌, ◌≤◌, ◌<◌, ◌^◌, take};
 ghost use Rattle.capacity.specs.Capacity.{max_statements, max_selects};
 ghost use Rattle.planner.specs.Planning.{plan_of};

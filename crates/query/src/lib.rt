@@ -10,6 +10,8 @@
 // Defines queries (read-only).
 //
 // Queries need to be translated into a query plan before they can be evaluated.
+#![tactic(auto)]
+
 use capacity::{MAX_SELECTS, MAX_STATEMENTS};
 use datom::Aid;
 

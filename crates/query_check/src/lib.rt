@@ -1,5 +1,7 @@
 // What a query must be before it can be planned or searched: the refusals 10 to 15 of document 01. Added: the Rust asserts a part
 // of this, and takes a variable number at or above the count for a constant's slot.
+#![tactic(auto)]
+
 ghost use Rattle.std.specs.Prelude.{◌≡◌, ◌≤◌, ◌+◌, not, ltb, take};
 ghost use Rattle.capacity.specs.Capacity.{max_statements, max_slots, max_selects};
 ghost use Rattle.query.specs.Query.{names, named};

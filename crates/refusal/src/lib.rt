@@ -1,4 +1,5 @@
 // The refusals of document 01, "Refusal numbers": every refusal has a number and a place.
+#![tactic(auto)]
 
 ghost use Rattle.std.specs.Prelude.{◌≡◌};
 ghost use Rattle.refusal.specs.Verdict.{refused};

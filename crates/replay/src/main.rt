@@ -1,5 +1,7 @@
 // Answers the cases that stand on standard input as decimal numbers: for each its kind, and then what the kind says (docs/REPLAY.md).
 // stdin and stdout hold the stored cases and the Rust's answers to them; `compare/run --make` writes both.
+#![tactic(auto)]
+
 mod answers;
 mod builds;
 mod evaluations;

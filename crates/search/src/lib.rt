@@ -1,5 +1,7 @@
 // The cheapest plan of a query over every order of its statements (01, "Swaps and the search"). Added: the Rust plans in the given
 // order.
+#![tactic(auto)]
+
 ghost use Rattle.std.specs.Prelude.{◌≡◌, ◌≤◌, ◌<◌, map, take};
 ghost use Rattle.capacity.specs.Capacity.{max_statements, max_searched};
 ghost use Rattle.refusal.specs.declared.Verdict.TheVariants.{Fine};

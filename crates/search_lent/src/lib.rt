@@ -1,5 +1,7 @@
 // The lent form of the search: the statements and selects are lent as slices, as they are to planning (crate `planner_lent`), and read into a
 // query by value, which is what the crate `search` works on.
+#![tactic(auto)]
+
 ghost use Rattle.std.specs.Prelude.{◌≡◌, ◌≤◌, take};
 ghost use Rattle.capacity.specs.Capacity.{max_statements, max_selects};
 ghost use Rattle.planner_lent.specs.Lent.{query_of};

@@ -1,4 +1,6 @@
 // Sorted tables of facts (01, "Tables and rows"): their check, and the range finder. Added: the Rust has tree iterators here.
+#![tactic(auto)]
+
 ghost use Rattle.std.specs.Prelude.{◌≡◌, true, [], ◌∷◌, ◌<◌};
 ghost use Rattle.tables.specs.Rows.{count, row, rows_of, before, ascending, begins, key, FirstRow, PastRows, Range};
 ghost use Rattle.tables.specs.Check.{is_among, lengths_fault, missing_fault, tables_fault};

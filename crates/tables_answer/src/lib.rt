@@ -1,5 +1,7 @@
 // Ticket 5, the program's answer (docs/LAYOUT.md, "The tables of a heap"): a text of decimal numbers holds a heap of triples, and the three tables
 // are written as the last parts of a question; or a refusal, or that the text is outside the layout.
+#![tactic(auto)]
+
 ghost use Rattle.std.specs.Prelude.{◌≡◌, ◌+◌, ◌*◌, ◌≤◌, length, take};
 ghost use Rattle.datom.specs.Fact.{words};
 ghost use Rattle.text_pieces.specs.Written.{Written};

@@ -1,5 +1,7 @@
 // Writes the tables of the heap that stands on standard input (docs/LAYOUT.md, "The tables of a heap"). This only moves bytes: what is written
 // comes from `tables_answer`.
+#![tactic(auto)]
+
 ghost use Rattle.std.specs.Prelude.{◌≡◌, length};
 ghost use Rattle.tables_answer.specs.Capacity.{text_bytes, answer_bytes};
 

@@ -7,6 +7,8 @@
 
 // Port of `get_select_name` of src/plan.rs to Rattle, changed: the names are lent, as one slice of bytes with an end for each slot, and
 // what the Rust panics at is refused with a number.
+#![tactic(auto)]
+
 ghost use Rattle.std.specs.Prelude.{◌≡◌, min, take, get_or};
 ghost use Rattle.text_names.specs.Names.{name_start, name_of, wrong_end, ends_fault, names_fault, select_name_fault, select_name_of};
 ghost use Rattle.plan.specs.Plan.{constant_at, zero_slot};

@@ -1,6 +1,8 @@
 // Pieces of a text, written and counted: each call writes its piece over a lent buffer from a position on, as far as the buffer
 // reaches, and answers the position after the piece. Written to a buffer of no bytes, a text is only counted. Positions stop at the
 // largest number, which no buffer's length reaches, so that no sum wraps.
+#![tactic(auto)]
+
 ghost use Rattle.std.specs.Prelude.{◌≡◌, [], ◌∷◌, ◌-◌, ◌≤◌, ◌<◌, min, length, take};
 ghost use Rattle.std.proofs.lemmas.List.Edits.{sets};
 ghost use Rattle.text_pieces.specs.Decimal.{digit as Decimal·digit, decimal};

@@ -7,6 +7,8 @@
 
 // Port of a scan's line and of `write_slot` of `impl Debug for Plan` of src/plan.rs to Rattle, changed: the formatter is a lent byte
 // buffer, and the names are lent too. Each function writes its part from `at` on and answers the position after it.
+#![tactic(auto)]
+
 ghost use Rattle.std.specs.Prelude.{length, take};
 ghost use Rattle.text_pieces.specs.Written.{Written};
 ghost use Rattle.plan.specs.declared.Flow.TheVariants.{OutOut, InOut, InIn};

@@ -9,6 +9,8 @@
 // options are arrays, and errors are refusals with a number. An attribute that does not exist, which the Rust leaves open, is refused.
 
 // Infers the type of every variable of a query.
+#![tactic(auto)]
+
 ghost use Rattle.std.specs.Prelude.{◌≡◌, ◌<◌, true, take};
 ghost use Rattle.capacity.specs.Capacity.{max_slots};
 ghost use Rattle.query_check.specs.Below.{Below};
