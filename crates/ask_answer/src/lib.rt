@@ -10,7 +10,7 @@ use refusal::Verdict;
 
 // A part of the answer: whether evaluation is refused; how many bytes it has and whether it is the last; and for the part after it the
 // plan whose rows follow, the number of the next row, and how many are left to show.
-#[derive(Drop)]
+#[derive(Clone, Copy)]
 pub struct Part {
     pub verdict: Verdict,
     pub length: usize,

@@ -7,14 +7,14 @@ ghost use Rattle.ask_numbers.specs.Words.{longer as Words·longer};
 ghost use Rattle.ask_numbers.specs.Steps.{Skipped, NumberFrom, DigitsFrom};
 
 // Whether a text is in the layout, and how many numbers it has.
-#[derive(Drop)]
+#[derive(Clone, Copy)]
 pub struct Read {
     pub inside: bool,
     pub count: usize,
 }
 
 // A number that was read, and the place after it; or that the text is outside the layout from there on.
-#[derive(Drop)]
+#[derive(Clone, Copy)]
 struct Number {
     inside: bool,
     value: u64,

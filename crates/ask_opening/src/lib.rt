@@ -20,7 +20,7 @@ use plan::Plan;
 use refusal::Verdict;
 
 // Whether rows follow, and of which plan; and how many bytes are written before them.
-#[derive(Drop)]
+#[derive(Clone, Copy)]
 pub struct Opening {
     pub rows: bool,
     pub plan: Plan,

@@ -11,7 +11,7 @@ use query::Query;
 use refusal::Verdict;
 
 // Whether the types, planning, the search or the cost are refused; the plan and its cost.
-#[derive(Drop)]
+#[derive(Clone, Copy)]
 pub struct Answer {
     pub verdict: Verdict,
     pub plan: Plan,

@@ -14,7 +14,7 @@ use query::{Query, QueryValue, Selects, Statement, Statements, Var, ZERO_STATEME
 
 // A part of the input: where its items begin, how many they are, how many words they take, and where the next part begins. One that
 // is not there has no items, and nothing comes after it.
-#[derive(Drop)]
+#[derive(Clone, Copy)]
 pub struct Part {
     pub inside: bool,
     pub at: usize,
@@ -24,7 +24,7 @@ pub struct Part {
 }
 
 // The parts of the input, in their order. The tables stand last: as they must hold the same facts, a question that lost its end is noticed.
-#[derive(Drop)]
+#[derive(Clone, Copy)]
 pub struct Parts {
     pub statements: Part,
     pub selects: Part,

@@ -14,7 +14,7 @@ use refusal::Verdict;
 
 // Whether evaluation is refused; how many bytes were written, whether this window is the last, and how the next one begins: the number
 // of its first row, and how many are left to show.
-#[derive(Drop)]
+#[derive(Clone, Copy)]
 pub struct Window {
     pub verdict: Verdict,
     pub length: usize,
@@ -24,7 +24,7 @@ pub struct Window {
 }
 
 // Whether it is the last, and how the next begins.
-#[derive(Drop)]
+#[derive(Clone, Copy)]
 struct Step {
     last: bool,
     from: u64,

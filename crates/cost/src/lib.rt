@@ -19,7 +19,7 @@ use plan::{Flow, Index, Plan, Scan};
 use refusal::{Verdict, refuse};
 
 // The answer of `cost`: 0 where it is refused.
-#[derive(Drop)]
+#[derive(Clone, Copy)]
 pub struct Costed {
     pub verdict: Verdict,
     pub cost: u64,
@@ -91,7 +91,7 @@ pub fn cost_of_scans(scans: [Scan; MAX_SCANS], scan_count: usize) -> Costed
 }
 
 // What earlier scans used of a scan's index: the same part of it, and any.
-#[derive(Drop)]
+#[derive(Clone, Copy)]
 struct Seen {
     is_key: bool,
     is_index: bool,

@@ -3,7 +3,7 @@
 // An attribute's number. Variables, slots and attributes are three kinds, and are never mixed.
 #![tactic(auto)]
 
-#[derive(Drop)]
+#[derive(Clone, Copy)]
 pub struct Aid(pub u64);
 
 // The words of a table's row.

@@ -21,7 +21,7 @@ use plan::Plan;
 use refusal::{Verdict, refuse};
 
 // Whether evaluation is refused; how many rows were written, and whether another follows.
-#[derive(Drop)]
+#[derive(Clone, Copy)]
 pub struct Evaluated {
     pub verdict: Verdict,
     pub count: usize,

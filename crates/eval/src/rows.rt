@@ -16,7 +16,7 @@ ghost use Rattle.eval.specs.Next.{innermost, remaining, Advanced, Skipped, selec
 use super::walk::LAID_WORDS;
 
 // How many rows were written, and whether another follows.
-#[derive(Drop)]
+#[derive(Clone, Copy)]
 pub(crate) struct Shown {
     pub count: usize,
     pub more: bool,

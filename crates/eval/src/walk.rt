@@ -25,7 +25,7 @@ pub(crate) const LAID_WORDS: usize = 5;
 pub(crate) const ITER_WORDS: usize = 2;
 
 // The rows that a scan has left: the position of the one that it takes next, and the position past its last.
-#[derive(Drop)]
+#[derive(Clone, Copy)]
 pub(crate) struct Iter {
     pub position: usize,
     pub end: usize,

@@ -6,14 +6,14 @@ use plan::Plan;
 use refusal::Verdict;
 
 // Whether the image is refused, and its length.
-#[derive(Drop)]
+#[derive(Clone, Copy)]
 pub struct Stored {
     pub verdict: Verdict,
     pub length: usize,
 }
 
 // Whether the bytes are refused, and the plan that they say.
-#[derive(Drop)]
+#[derive(Clone, Copy)]
 pub struct PlanRead {
     pub verdict: Verdict,
     pub plan: Plan,

@@ -11,21 +11,21 @@ pub(crate) const BYTE_BITS: usize = 8;
 const HALF_BITS: usize = 32;
 
 // Where a field begins: a byte, and which of its bits, counted from the most significant.
-#[derive(Drop)]
+#[derive(Clone, Copy)]
 pub(crate) struct Cursor {
     pub(crate) byte: usize,
     pub(crate) bit: usize,
 }
 
 // What follows what was read: where the next field begins, or why reading stops.
-#[derive(Drop)]
+#[derive(Clone, Copy)]
 pub(crate) enum Next {
     At(Cursor),
     Stopped(Refusal),
 }
 
 // A field's number, which says nothing where reading stops.
-#[derive(Drop)]
+#[derive(Clone, Copy)]
 pub(crate) struct Field {
     pub(crate) number: u64,
     pub(crate) next: Next,

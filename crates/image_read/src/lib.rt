@@ -22,7 +22,7 @@ use plan_check::check_invariants;
 use refusal::{Refusal, Verdict, refuse};
 
 // How many scans, slots and selects an image has.
-#[derive(Drop)]
+#[derive(Clone, Copy)]
 struct Counts {
     scans: usize,
     slots: usize,
@@ -30,13 +30,13 @@ struct Counts {
 }
 
 // What was read, and what follows. It says nothing where reading stops.
-#[derive(Drop)]
+#[derive(Clone, Copy)]
 struct CountFields {
     counts: Counts,
     next: Next,
 }
 
-#[derive(Drop)]
+#[derive(Clone, Copy)]
 struct PlanFields {
     plan: Plan,
     next: Next,

@@ -15,38 +15,38 @@ use plan::{Scan, Slot, SlotDefinition, SlotRecord, VARIABLE_SLOT, ZERO_SCAN};
 const NO_CODE: u64 = 3;
 
 // What was read, and what follows. It says nothing where reading stops.
-#[derive(Drop)]
+#[derive(Clone, Copy)]
 pub(crate) struct SlotField {
     pub(crate) slot: SlotRecord,
     pub(crate) next: Next,
 }
 
-#[derive(Drop)]
+#[derive(Clone, Copy)]
 pub(crate) struct ScanField {
     pub(crate) scan: Scan,
     pub(crate) next: Next,
 }
 
-#[derive(Drop)]
+#[derive(Clone, Copy)]
 pub(crate) struct SelectField {
     pub(crate) slot: Slot,
     pub(crate) next: Next,
 }
 
 // The same of as many as were asked for; past these stands what past a plan's counts does.
-#[derive(Drop)]
+#[derive(Clone, Copy)]
 pub(crate) struct SlotFields {
     pub(crate) slots: [SlotRecord; MAX_SLOTS],
     pub(crate) next: Next,
 }
 
-#[derive(Drop)]
+#[derive(Clone, Copy)]
 pub(crate) struct ScanFields {
     pub(crate) scans: [Scan; MAX_SCANS],
     pub(crate) next: Next,
 }
 
-#[derive(Drop)]
+#[derive(Clone, Copy)]
 pub(crate) struct SelectFields {
     pub(crate) select: [Slot; MAX_SELECTS],
     pub(crate) next: Next,

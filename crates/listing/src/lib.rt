@@ -17,7 +17,7 @@ use plan::{Flow, Index, Plan, Scan};
 use refusal::{Verdict, refuse};
 
 // The answer of `next`: whether it is new, and the plan; where it is refused, the plan as it was given.
-#[derive(Drop)]
+#[derive(Clone, Copy)]
 pub struct NextPlan {
     pub verdict: Verdict,
     pub is_new: bool,
@@ -25,7 +25,7 @@ pub struct NextPlan {
 }
 
 // The same for scans without a plan. They stand in front: behind a bool the compiler copies them twice more for each plan searched.
-#[derive(Drop)]
+#[derive(Clone, Copy)]
 pub struct NextScans {
     pub scans: [Scan; MAX_SCANS],
     pub is_new: bool,
@@ -33,7 +33,7 @@ pub struct NextScans {
 }
 
 // The answer of `next_scan`: the scan, and whether it is new.
-#[derive(Drop)]
+#[derive(Clone, Copy)]
 struct NextScan {
     scan: Scan,
     is_new: bool,

@@ -23,7 +23,7 @@ use refusal::{Refusal, Verdict};
 // `n! - 1` swaps. The first permutation is that with no swaps applied.
 //
 // This is the non-recursive version of Heap's algorithm: a counter for each element, and the position to look at next.
-#[derive(Drop)]
+#[derive(Clone, Copy)]
 pub struct Permutations {
     pub ks: [usize; MAX_ELEMENTS],
     pub n: usize,
@@ -31,18 +31,18 @@ pub struct Permutations {
 }
 
 // The indices of two elements to swap.
-#[derive(Drop)]
+#[derive(Clone, Copy)]
 pub struct Swap(pub usize, pub usize);
 
 // The answer of `new`: the state is that of no elements where it is refused.
-#[derive(Drop)]
+#[derive(Clone, Copy)]
 pub struct Fresh {
     pub verdict: Verdict,
     pub state: Permutations,
 }
 
 // The answer of `next`: where there is none, or it is refused, the swap is (0, 0).
-#[derive(Drop)]
+#[derive(Clone, Copy)]
 pub struct NextSwap {
     pub verdict: Verdict,
     pub is_some: bool,
@@ -50,7 +50,7 @@ pub struct NextSwap {
 }
 
 // The answer of the step by value: what `next` answers, and the state after it.
-#[derive(Drop)]
+#[derive(Clone, Copy)]
 pub struct Step {
     pub next: NextSwap,
     pub state: Permutations,

@@ -22,11 +22,11 @@ use refusal::{Verdict, refuse};
 // The index of a slot.
 //
 // A slot stores the current value of a variable or constant during evaluation.
-#[derive(Drop)]
+#[derive(Clone, Copy)]
 pub struct Slot(pub u16);
 
 // The index to scan.
-#[derive(Drop)]
+#[derive(Clone, Copy)]
 pub enum Index {
     Aevt,
     Avet,
@@ -59,7 +59,7 @@ pub const EAVT: u64 = 2;
 //   | Eavt  | Entity | Value  |
 //
 // * Test the existence of known facts. We read both the *entity* and *value*.
-#[derive(Drop)]
+#[derive(Clone, Copy)]
 pub enum Flow {
     OutOut,
     InOut,
@@ -78,7 +78,7 @@ pub const IN_IN: u64 = 2;
 // While there are nine combinations of flow and index (one of which is invalid), there are only four possible entity-value
 // flows: either can be an input or output. Evaluation is mostly concerned with this entity-value flow, and what particular
 // index is producing the entity and value is not relevant.
-#[derive(Drop)]
+#[derive(Clone, Copy)]
 pub enum EntityValueFlow {
     OutOut,
     InOut,
@@ -90,7 +90,7 @@ pub enum EntityValueFlow {
 //
 // A scan may fill zero, one, or two variables depending on its kind. Depending on the flow and index used, the slots
 // referenced by the entity and value can be inputs or outputs.
-#[derive(Drop)]
+#[derive(Clone, Copy)]
 pub struct Scan {
     pub index: Index,
     pub flow: Flow,
@@ -103,14 +103,14 @@ pub struct Scan {
 //
 // A slot can contain either a constant, or the current value for a variable. Constants are filled once at the start of
 // evaluation; variable slots can be assigned new values at every iteration.
-#[derive(Drop)]
+#[derive(Clone, Copy)]
 pub enum SlotDefinition {
     Variable,
     Constant(u64),
 }
 
 // A slot of a plan.
-#[derive(Drop)]
+#[derive(Clone, Copy)]
 pub struct SlotRecord {
     pub definition: SlotDefinition,
 }
@@ -122,7 +122,7 @@ pub struct SlotRecord {
 // at the start of evaluation, with a constant. A query is executed as a number of nested loops, one for each scan. Scans can
 // read from slots that were written to by an earlier scan (one with a lower index). The innermost loop yields the result of
 // the query.
-#[derive(Drop)]
+#[derive(Clone, Copy)]
 pub struct Plan {
     // The scans that fill the variable slots.
     //
@@ -160,7 +160,7 @@ pub const VARIABLE_SLOT: SlotRecord = SlotRecord {
 };
 
 // What a scan does with one of its slots.
-#[derive(Drop)]
+#[derive(Clone, Copy)]
 pub enum Access {
     Reads,
     Writes,

@@ -20,7 +20,7 @@ use plan::{Access, Flow, Plan, Scan, Slot, SlotDefinition, SlotRecord};
 use refusal::{Verdict, refuse};
 
 // For every slot, the check stores whether it is initialized.
-#[derive(Drop)]
+#[derive(Clone, Copy)]
 enum Initialization {
     // Not initialized yet, safe to write, unsafe to read.
     Unset,

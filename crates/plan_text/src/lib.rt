@@ -24,7 +24,7 @@ use text_pieces::{write, write_decimal};
 use text_scan::{write_scan, write_slot};
 
 // Whether the text is refused, and its length.
-#[derive(Drop)]
+#[derive(Clone, Copy)]
 pub struct Formatted {
     pub verdict: Verdict,
     pub length: usize,

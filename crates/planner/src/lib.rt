@@ -29,14 +29,14 @@ use query::{Query, QueryValue, Statement, Var};
 use refusal::{Verdict, refuse};
 
 // The answer of planning: the plan is empty where it is refused.
-#[derive(Drop)]
+#[derive(Clone, Copy)]
 pub struct Planned {
     pub verdict: Verdict,
     pub plan: Plan,
 }
 
 // The scans that implement a query's statements, and how many slots they name; or where one binds a variable twice, and zeros.
-#[derive(Drop)]
+#[derive(Clone, Copy)]
 pub struct Initialized {
     pub verdict: Verdict,
     pub scans: [Scan; MAX_SCANS],

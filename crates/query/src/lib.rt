@@ -19,18 +19,18 @@ use datom::Aid;
 //
 // Variables can be named, but the names are specified separately; internally variables are referenced by index. No query has u16::MAX
 // variables, and no plan so many slots: readers take a number past it for that one.
-#[derive(Drop)]
+#[derive(Clone, Copy)]
 pub struct Var(pub u16);
 
 // The value in a query can be a constant or a variable.
-#[derive(Drop)]
+#[derive(Clone, Copy)]
 pub enum QueryValue {
     Const(u64),
     Var(Var),
 }
 
 // A statement that relates an entity, attribute, and a value.
-#[derive(Drop)]
+#[derive(Clone, Copy)]
 pub struct Statement {
     pub entity: Var,
     pub attribute: Aid,
@@ -45,14 +45,14 @@ pub const ZERO_STATEMENT: Statement = Statement {
 };
 
 // Statements by value: as many as the count says, which may be more than the array holds.
-#[derive(Drop)]
+#[derive(Clone, Copy)]
 pub struct Statements {
     pub items: [Statement; MAX_STATEMENTS],
     pub count: usize,
 }
 
 // Variables to select, by value, in the same way.
-#[derive(Drop)]
+#[derive(Clone, Copy)]
 pub struct Selects {
     pub items: [Var; MAX_SELECTS],
     pub count: usize,
@@ -61,7 +61,7 @@ pub struct Selects {
 // A query.
 //
 // It finds the assignments to its variables that make all its statements facts, and selects some of the variables.
-#[derive(Drop)]
+#[derive(Clone, Copy)]
 pub struct Query {
     // The number of variables. Their names serve the plan text only, and are lent to that.
     pub variable_count: u64,

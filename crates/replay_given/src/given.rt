@@ -18,21 +18,21 @@ use query::{Query, QueryValue, Selects, Statement, Statements, Var};
 pub const TABLE_WORDS: usize = 1800;
 
 // A query that was read, and where to read on.
-#[derive(Drop)]
+#[derive(Clone, Copy)]
 pub struct GivenQuery {
     pub query: Query,
     pub next: usize,
 }
 
 // A plan on the way, and where to read on.
-#[derive(Drop)]
+#[derive(Clone, Copy)]
 pub struct GivenPlan {
     pub plan: Plan,
     pub next: usize,
 }
 
 // A table that was read, and where to read on.
-#[derive(Drop)]
+#[derive(Clone, Copy)]
 pub struct GivenTable {
     pub words: [u64; TABLE_WORDS],
     pub length: usize,
@@ -40,13 +40,13 @@ pub struct GivenTable {
 }
 
 // Statements on the way, and where to read on; selects likewise.
-#[derive(Drop)]
+#[derive(Clone, Copy)]
 struct ReadStatements {
     statements: Statements,
     next: usize,
 }
 
-#[derive(Drop)]
+#[derive(Clone, Copy)]
 struct ReadSelects {
     select: Selects,
     next: usize,

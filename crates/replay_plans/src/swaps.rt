@@ -156,7 +156,7 @@ fn four_steps(state: Permutations) {
 }
 
 // The counters of a state that begin at a place, and where to read on.
-#[derive(Drop)]
+#[derive(Clone, Copy)]
 struct Counters {
     ks: [usize; MAX_ELEMENTS],
     next: usize,

@@ -13,7 +13,7 @@ use replay_given::{given, numbers};
 pub const BUFFER_BYTES: usize = 4096;
 
 // How many were read, and where to read on.
-#[derive(Drop)]
+#[derive(Clone, Copy)]
 pub struct Counted {
     pub count: usize,
     pub next: usize,

@@ -22,7 +22,7 @@ use refusal::{Verdict, refuse};
 
 // The answer of the search: the order as statement numbers, zeros past the last, the plan and its cost; all zeros where it is
 // refused.
-#[derive(Drop)]
+#[derive(Clone, Copy)]
 pub struct Found {
     pub verdict: Verdict,
     pub order: [usize; MAX_SEARCHED],
@@ -31,7 +31,7 @@ pub struct Found {
 }
 
 // The first plan of least cost among those weighed so far, if there is one: its order, its scans and its cost.
-#[derive(Drop)]
+#[derive(Clone, Copy)]
 struct Best {
     is_some: bool,
     order: [usize; MAX_SEARCHED],

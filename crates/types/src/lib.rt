@@ -29,21 +29,21 @@ pub const REFERENCE: u64 = 0;
 const ROW_WORDS: usize = 2;
 
 // The answer of type inference: one type per variable, zeros past them; all zeros where it is refused.
-#[derive(Drop)]
+#[derive(Clone, Copy)]
 pub struct Inferred {
     pub verdict: Verdict,
     pub types: [u64; MAX_SLOTS],
 }
 
 // The type of an attribute, if the table has it.
-#[derive(Drop)]
+#[derive(Clone, Copy)]
 struct FoundType {
     is_some: bool,
     number: u64,
 }
 
 // The types of the variables that the statements so far name.
-#[derive(Drop)]
+#[derive(Clone, Copy)]
 struct KnownTypes {
     is_known: [bool; MAX_SLOTS],
     types: [u64; MAX_SLOTS],

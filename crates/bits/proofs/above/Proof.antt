@@ -5,8 +5,8 @@ use Rattle.bits.proofs.Bytes.{none_above}
 use Rattle.bits.proofs.above.Statement.{statement}
 use Rattle.bits.proofs.above.Tie as tie
 
-none : tie.Need-returns-2
-none c = none_above c.before.args.value c.before.args.n (search rules) (omega arith)
+none : tie.Need-returns-else-n-lt64
+none c = none_above c.args.value c.args.n (search rules) (omega arith)
 
-pub above-spec : {M : Type 1} → statement M
-above-spec = tie.close (tie.spec (λ c. search rules) (λ c. search rules) none)
+pub above_spec : {M : Type 1} → statement M
+above_spec = tie.close (tie.spec (λ c. search rules) (λ c. search rules) none)

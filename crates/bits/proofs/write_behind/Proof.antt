@@ -14,58 +14,58 @@ use Rattle.bits.proofs.Over.{byte-written}
 use Rattle.bits.proofs.write_behind.Statement.{statement}
 use Rattle.bits.proofs.write_behind.Tie as tie
 
-abbrev Inv : tie.invariant-loop
+abbrev Inv : tie.invariant-loop-i
 Inv first first_count value width start out₀ held₀ count₀ left₀ i₀ out held count left i =
     (count < 8) × (held < 2 ^ count) × (length out ≡ length out₀)
     × (sets out i (packed (bits count held ++ bits left value)) ≡ sets out₀ start (packed (bits first_count first ++ bits width value)))
 
-abbrev μ : tie.decreases-loop
+abbrev μ : tie.decreases-loop-i
 μ first first_count value width start out₀ held₀ count₀ left₀ i₀ out held count left i = length out₀ - i
 
-last_fits : tie.Need-write-last-requires Inv μ
-last_fits c κs = let turn = c.before.before.before.loop in (omega (arith, turn.invariant.0), turn.invariant.1, omega arith)
+last_fits : tie.Need-write_last-requires Inv μ
+last_fits c κs = let turn = c.loop-i in (omega (arith, turn.invariant.0), turn.invariant.1, omega arith)
 
-last-long : tie.Need-same-length Inv μ
+last-long : tie.Need-shape_of-out-then-left-room Inv μ
 last-long c =
-    let turn = c.before.before.before.before.before.before.loop in
-    let a = c.before.before.before.before.before.before.before.before.args in
-    ap length c.before.before.write-last.ensures ∙ length-sets turn.out turn.i (packed (bits turn.count turn.held ++ bits turn.left a.value)) ∙ turn.invariant.2
+    let turn = c.loop-i in
+    let a = c.args in
+    ap length c.write_last.ensures ∙ length-sets turn.out-1 turn.i (packed (bits turn.count turn.held ++ bits turn.left a.value)) ∙ turn.invariant.2
 
-last : tie.Need-returns Inv μ
-last c = c.before.before.write-last.ensures ∙ c.before.before.before.before.before.before.loop.invariant.3
+last : tie.Need-returns-then-left-room Inv μ
+last c = c.write_last.ensures ∙ c.loop-i.invariant.3
 
 held_small : tie.Need-behind-requires Inv μ
-held_small c κs = let turn = c.before.before.before.loop in (few-lt turn.count turn.held (omega (arith, turn.invariant.0)) turn.invariant.1, omega arith)
+held_small c κs = let turn = c.loop-i in (few-lt turn.count turn.held (omega (arith, turn.invariant.0)) turn.invariant.1, omega arith)
 
-byte : tie.Need-overflow-cast-out Inv μ
+byte : tie.Need-overflow_cast-out Inv μ
 byte c =
-    let turn = c.before.before.before.before.loop in
+    let turn = c.loop-i in
     record { fits = (behind-byte turn.count (8 - turn.count) turn.held _ _ (omega (arith, turn.invariant.0)) turn.invariant.1 c.behind.ensures).1 }
 
-again : tie.Need-loop-preserved Inv μ
+again : tie.Need-loop-i-preserved Inv μ
 again c =
-    let turn = c.before.before.before.before.loop in
-    let a = c.before.before.before.before.before.before.args in
+    let turn = c.loop-i in
+    let a = c.args in
     let is : c.behind.result ≡ turn.held * 2 ^ (8 - turn.count) + a.value / 2 ^ (turn.left - (8 - turn.count)) % 2 ^ (8 - turn.count) =
-    c.behind.ensures ∙ ap (λ (x : ℕ). turn.held * 2 ^ (8 - turn.count) + x % 2 ^ (8 - turn.count)) c.before.above.ensures in (
+    c.behind.ensures ∙ ap (λ (x : ℕ). turn.held * 2 ^ (8 - turn.count) + x % 2 ^ (8 - turn.count)) c.above.ensures in (
       omega arith,
       pow_pos 0,
-      length-set turn.out _ _ ∙ turn.invariant.2,
-      sym (byte-written turn.out turn.i turn.count (8 - turn.count) turn.left (turn.left - (8 - turn.count)) turn.held a.value _
+      length-set turn.out-1 _ _ ∙ turn.invariant.2,
+      sym (byte-written turn.out-1 turn.i turn.count (8 - turn.count) turn.left (turn.left - (8 - turn.count)) turn.held a.value _
           (omega (arith, turn.invariant.0)) (omega arith) turn.invariant.1 is) ∙ turn.invariant.3,
     )
 
-done : tie.Need-returns-2 Inv μ
-done c = let turn = c.before.loop in sym (sets-past (packed (bits turn.count turn.held ++ bits turn.left _)) turn.out turn.i (omega arith)) ∙ turn.invariant.3
+done : tie.Need-returns-then-left-room Inv μ
+done c = let turn = c.loop-i in sym (sets-past (packed (bits turn.count turn.held ++ bits turn.left _)) turn.out-1 turn.i (omega arith)) ∙ turn.invariant.3
 
-pub write-behind-spec : {M : Type 1} → statement M
-write-behind-spec =
+pub write_behind_spec : {M : Type 1} → statement M
+write_behind_spec =
     tie.close
     (tie.spec
     Inv
     μ
-    (λ c. (c.before.requires.0, c.before.requires.1, refl, refl))
-    (λ c. omega (arith, c.before.loop.invariant.0))
+    (λ c. (c.requires.0, c.requires.1, refl, refl))
+    (λ c. omega (arith, c.loop-i.invariant.0))
     last_fits
     last-long
     last
@@ -74,7 +74,7 @@ write-behind-spec =
     byte
     (λ c. search rules)
     (λ c. omega arith)
-    (λ c. omega (arith, c.before.before.before.before.loop.invariant.2))
+    (λ c. omega (arith, c.loop-i.invariant.2))
     again
-    (λ c. c.before.loop.invariant.2)
+    (λ c. c.loop-i.invariant.2)
     done)

@@ -13,33 +13,33 @@ use Rattle.bits.proofs.Over.{over-some}
 use Rattle.bits.proofs.write_bits.Statement.{statement}
 use Rattle.bits.proofs.write_bits.Tie as tie
 
-no_bits : tie.Need-returns
+no_bits : tie.Need-returns-then-width-eq0
 unfolding bits
-no_bits c = let none : c.before.before.args.width ≡ 0 = omega arith in rw none refl
+no_bits c = let none : c.args.width ≡ 0 = omega arith in rw none refl
 
-over : tie.Need-returns-2
+over : tie.Need-returns-then-i-out
 over c =
-    let a = c.before.before.before.before.before.before.before.before.before.args in
+    let a = c.args in
     let some : 0 < length (bits a.width a.value) = omega (arith, bits-length a.width a.value) in
-    c.before.before.write-behind.ensures ∙
-    ap (λ (l : List ℕ). sets a.out.now (a.at / 8) (packed (l ++ bits a.width a.value))) c.before.before.before.before.front.ensures.1 ∙
+    c.write_behind.ensures ∙
+    ap (λ (l : List ℕ). sets a.out.now (a.at / 8) (packed (l ++ bits a.width a.value))) c.front-held.ensures.1 ∙
     over-some a.out.now a.at (bits a.width a.value) some
 
-past : tie.Need-returns-3
+past : tie.Need-returns-else-i-out
 past c =
-    let a = c.before.before.before.args in
+    let a = c.args in
     let l = bits a.width a.value in
     let some : 0 < length l = omega (arith, bits-length a.width a.value) in
     sym (sets-past (packed (bits_before a.out.now a.at ++ l)) a.out.now (a.at / 8) (omega arith)) ∙ over-some a.out.now a.at l some
 
-pub write-bits-spec : {M : Type 1} → statement M
-write-bits-spec =
+pub write_bits_spec : {M : Type 1} → statement M
+write_bits_spec =
     tie.close
     (tie.spec
     no_bits
     (λ c. search rules)
     (λ c κs. omega arith)
-    (λ c κs. (omega arith, c.before.front.ensures.0))
+    (λ c κs. (omega arith, c.front-held.ensures.0))
     (λ c. search rules)
     over
     past)

@@ -5,23 +5,23 @@ use Rattle.plan.specs.Plan.{counts_fault}
 use Rattle.plan.proofs.check_counts.Statement.{statement}
 use Rattle.plan.proofs.check_counts.Tie as tie
 
-returns : tie.Need-returns
+returns : tie.Need-returns-then-slot_count-gt-MAX_SLOTS
 unfolding counts_fault
-returns c = simp (lt-ltb _ _ c.before.if1.true) c.refuse.ensures
+returns c = simp (lt-ltb _ _ c.if-slot_count-gt-MAX_SLOTS.true) c.refuse.ensures
 
-returns-2 : tie.Need-returns-2
+returns-2 : tie.Need-returns-then-scan_count-gt-MAX_SCANS
 unfolding counts_fault
-returns-2 c = simp (le-ltb _ _ c.before.before.if1.false, lt-ltb _ _ c.before.if2.true) c.refuse2.ensures
+returns-2 c = simp (le-ltb _ _ c.if-slot_count-gt-MAX_SLOTS.false, lt-ltb _ _ c.if-scan_count-gt-MAX_SCANS.true) c.refuse-then-scan_count-gt-MAX_SCANS.ensures
 
-returns-3 : tie.Need-returns-3
+returns-3 : tie.Need-returns-then-select_count-gt-MAX_SELECTS
 unfolding counts_fault
 returns-3 c =
-    simp (le-ltb _ _ c.before.before.before.if1.false, le-ltb _ _ c.before.before.if2.false, lt-ltb _ _ c.before.if3.true) c.refuse3.ensures
+    simp (le-ltb _ _ c.if-slot_count-gt-MAX_SLOTS.false, le-ltb _ _ c.if-scan_count-gt-MAX_SCANS.false, lt-ltb _ _ c.if-select_count-gt-MAX_SELECTS.true) c.refuse-then-select_count-gt-MAX_SELECTS.ensures
 
-returns-4 : tie.Need-returns-4
+returns-4 : tie.Need-returns
 unfolding counts_fault
-returns-4 c = simp (le-ltb _ _ c.before.before.if1.false, le-ltb _ _ c.before.if2.false, le-ltb _ _ c.if3.false)
+returns-4 c = simp (le-ltb _ _ c.if-slot_count-gt-MAX_SLOTS.false, le-ltb _ _ c.if-scan_count-gt-MAX_SCANS.false, le-ltb _ _ c.if-select_count-gt-MAX_SELECTS.false)
 
-pub check-counts-spec : {M : Type 1} → statement M
-check-counts-spec =
+pub check_counts_spec : {M : Type 1} → statement M
+check_counts_spec =
     tie.close (tie.spec (λ c κs. search rules) returns (λ c κs. search rules) returns-2 (λ c κs. search rules) returns-3 returns-4)

@@ -5,15 +5,15 @@ use Rattle.plan.proofs.Counts.{flows-agree}
 use Rattle.plan.proofs.check_flows.Statement.{statement}
 use Rattle.plan.proofs.check_flows.Tie as tie
 
-over : tie.Need-returns
+over : tie.Need-returns-in-Refused
 over c =
-    let counts = sym c.before.before.check-counts.ensures ∙ c.enum_told.given.1 in
-    c.enum_told.given.1 ∙ sym (flows-agree _ ∙ simp counts)
+    let counts = sym c.check_counts-counts.ensures ∙ c.in-Refused.is in
+    c.in-Refused.is ∙ sym (flows-agree _ ∙ simp counts)
 
-scans : tie.Need-returns-2
+scans : tie.Need-returns
 scans c =
-    let counts = sym c.before.before.before.before.check-counts.ensures ∙ c.before.before.enum-told2.given.1 in
-    c.check-scan-flows.ensures ∙ sym (flows-agree _ ∙ simp counts)
+    let counts = sym c.check_counts-counts.ensures ∙ c.in_default.is in
+    c.check_scan_flows.ensures ∙ sym (flows-agree _ ∙ simp counts)
 
-pub check-flows-spec : {M : Type 1} → statement M
-check-flows-spec = tie.close (tie.spec (λ c κs. search rules) (λ c. search rules) over (λ c. search rules) (λ c κs. search rules) scans)
+pub check_flows_spec : {M : Type 1} → statement M
+check_flows_spec = tie.close (tie.spec (λ c κs. search rules) (λ c. search rules) over (λ c. search rules) (λ c κs. search rules) scans)

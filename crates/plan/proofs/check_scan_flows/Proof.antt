@@ -13,43 +13,43 @@ use Rattle.plan.specs.Plan.{out_out_eavt, zero_scan, out_out_fault, scan_flows_f
 use Rattle.plan.proofs.check_scan_flows.Statement.{statement}
 use Rattle.plan.proofs.check_scan_flows.Tie as tie
 
-abbrev Inv : tie.invariant-loop
+abbrev Inv : tie.invariant-loop-i_scan
 Inv k scans i₀ i =
     Walked (λ j (s : Scan). refuse_if (out_out_eavt s.flow s.index) 21 j) scans k 0 i i × (scan_flows_fault scans k ≡ out_out_fault (take k scans) 0)
 
-abbrev μ : tie.decreases-loop
+abbrev μ : tie.decreases-loop-i_scan
 μ k scans i₀ i = k - i
 
-over : tie.Need-returns Inv μ
+over : tie.Need-returns-then-scan_count-gt-MAX_SCANS Inv μ
 unfolding scan_flows_fault
-over c = simp (lt-ltb _ _ c.before.if1.true) c.refuse.ensures
+over c = simp (lt-ltb _ _ c.if-scan_count-gt-MAX_SCANS.true) c.refuse.ensures
 
-start : tie.Need-loop-init Inv μ
+start : tie.Need-loop-i_scan-init Inv μ
 unfolding scan_flows_fault
 start c =
-    let h : length c.before.args.t1 ≡ max_scans = search rules in
-    (record { within = omega arith; fits = omega arith; rest = refl }, simp (le-ltb _ _ c.if1.false))
+    let h : length c.args.t1 ≡ max_scans = search rules in
+    (record { within = omega arith; fits = omega arith; rest = refl }, simp (le-ltb _ _ c.if-scan_count-gt-MAX_SCANS.false))
 
-found : tie.Need-returns-2 Inv μ
+found : tie.Need-returns-then-is_out_out_eavt Inv μ
 unfolding out_out_fault refuse_first
 found c =
     let b = c.before.before in
     let w = b.before.before in
-    c.refuse2.ensures ∙
-    sym (w.before.loop.invariant.1 ∙ walked-found w.before.loop.invariant.0 zero_scan w.loop-test.true (rw (sym b.is-out-out-eavt.ensures ∙ c.before.if2.true) refl))
+    c.refuse-then-is_out_out_eavt.ensures ∙
+    sym (w.loop-i_scan.invariant.1 ∙ walked-found w.loop-i_scan.invariant.0 zero_scan w.loop-i_scan-test.true (rw (sym b.is_out_out_eavt.ensures ∙ c.if-is_out_out_eavt.true) refl))
 
-again : tie.Need-loop-preserved Inv μ
+again : tie.Need-loop-i_scan-preserved Inv μ
 again c =
     let b = c.before in
     let w = b.before.before in
-    (walked_on w.before.loop.invariant.0 zero_scan w.loop-test.true (rw (sym b.is-out-out-eavt.ensures ∙ c.if2.false) refl), w.before.loop.invariant.1)
+    (walked_on w.loop-i_scan.invariant.0 zero_scan w.loop-i_scan-test.true (rw (sym b.is_out_out_eavt.ensures ∙ c.if-is_out_out_eavt.false) refl), w.loop-i_scan.invariant.1)
 
-done : tie.Need-returns-3 Inv μ
+done : tie.Need-returns Inv μ
 unfolding out_out_fault refuse_first
-done c = sym (c.before.loop.invariant.1 ∙ walked-done c.before.loop.invariant.0 c.loop-test.false)
+done c = sym (c.loop-i_scan.invariant.1 ∙ walked-done c.loop-i_scan.invariant.0 c.loop-i_scan-test.false)
 
-pub check-scan-flows-spec : {M : Type 1} → statement M
-check-scan-flows-spec =
+pub check_scan_flows_spec : {M : Type 1} → statement M
+check_scan_flows_spec =
     tie.close
     (tie.spec
     Inv

@@ -4,10 +4,10 @@ use Rattle.plan.proofs.Codes.{third-flow}
 use Rattle.plan.proofs.flow_of_code.Statement.{statement}
 use Rattle.plan.proofs.flow_of_code.Tie as tie
 
-pub flow-of-code-spec : {M : Type 1} → statement M
-flow-of-code-spec =
+pub flow_of_code_spec : {M : Type 1} → statement M
+flow_of_code_spec =
     tie.close
     (tie.spec
-    (λ c. rw c.if1.true refl)
-    (λ c. rw c.if2.true refl)
-    (λ c. rw (third-flow _ c.before.if1.false c.if2.false) refl))
+    (λ c. rw c.if-code-eq-OUT_OUT.true refl)
+    (λ c. rw c.if-code-eq-IN_OUT.true refl)
+    (λ c. rw (third-flow _ c.if-code-eq-OUT_OUT.false c.if-code-eq-IN_OUT.false) refl))

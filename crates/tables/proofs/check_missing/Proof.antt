@@ -17,20 +17,20 @@ use Rattle.tables.proofs.Table.{row-key, span-step, span-end}
 use Rattle.tables.proofs.check_missing.Statement.{statement}
 use Rattle.tables.proofs.check_missing.Tie as tie
 
-abbrev Inv : tie.invariant-loop
+abbrev Inv : tie.invariant-loop-i
 Inv ae av ea n i₀ i =
     (n ≡ count ae) × (missing_fault (rows_of av) (rows_of ea) (rows_of ae) 0 ≡ missing_fault (rows_of av) (rows_of ea) (map (row ae) (span i (n - i))) i)
 
-abbrev μ : tie.decreases-loop
+abbrev μ : tie.decreases-loop-i
 μ ae av ea n i₀ i = n - i
 
 -- row i decides, and then the rows after it
-turn : (c : tie.In-loop Inv μ) →
-    let a = c.before.before.before.before.before.args in
+turn : (c : tie.In-loop-i Inv μ) →
+    let a = c.args in
     let ae = a.aevt.now in
     let av = rows_of a.avet.now in
     let ea = rows_of a.eavt.now in
-    let i = c.before.loop.i in
+    let i = c.loop-i.i in
     let at = get_or ae (words * i) 0 in
     let en = get_or ae (words * i + 1) 0 in
     let va = get_or ae (words * i + 2) 0 in
@@ -39,58 +39,58 @@ turn : (c : tie.In-loop Inv μ) →
     (missing_fault av ea (map (row ae) (span (i + 1) (count ae - (i + 1)))) (i + 1))
 unfolding missing_fault refuse_first first_fault
 turn c =
-    let a = c.before.before.before.before.before.args in
-    let i = c.before.loop.i in
-    rw (row-key a.aevt.now i (omega arith)) at (rw (span-step (count a.aevt.now) i (omega arith)) at c.before.loop.invariant.1)
+    let a = c.args in
+    let i = c.loop-i.i in
+    rw (row-key a.aevt.now i (omega arith)) at (rw (span-step (count a.aevt.now) i (omega arith)) at c.loop-i.invariant.1)
 
 -- what the two searches found
-in_avet : (c : tie.After-is-row Inv μ) →
+in_avet : (c : tie.After-is_row Inv μ) →
     let l = c.before.before.before.before in
-    let a = l.before.before.before.before.before.args in
+    let a = l.args in
     let ae = a.aevt.now in
-    let i = l.before.loop.i in
+    let i = l.loop-i.i in
     is_among (get_or ae (words * i) 0 ∷ get_or ae (words * i + 2) 0 ∷ get_or ae (words * i + 1) 0 ∷ []) (rows_of a.avet.now) ≡ c.is_row.result
-in_avet c = sym (c.is_row.ensures c.before.before.before.before.before.before.before.before.before.requires.0)
+in_avet c = sym (c.is_row.ensures c.requires.0)
 
-in_eavt : (c : tie.After-is-row2 Inv μ) →
+in_eavt : (c : tie.After-is_row-in-loop-i Inv μ) →
     let l = c.before.before.before.before.before.before in
-    let a = l.before.before.before.before.before.args in
+    let a = l.args in
     let ae = a.aevt.now in
-    let i = l.before.loop.i in
-    is_among (get_or ae (words * i + 1) 0 ∷ get_or ae (words * i) 0 ∷ get_or ae (words * i + 2) 0 ∷ []) (rows_of a.eavt.now) ≡ c.is-row2.result
-in_eavt c = sym (c.is-row2.ensures c.before.before.before.before.before.before.before.before.before.before.before.requires.1)
+    let i = l.loop-i.i in
+    is_among (get_or ae (words * i + 1) 0 ∷ get_or ae (words * i) 0 ∷ get_or ae (words * i + 2) 0 ∷ []) (rows_of a.eavt.now) ≡ c.is_row-in-loop-i.result
+in_eavt c = sym (c.is_row-in-loop-i.ensures c.requires.1)
 
-not-in-avet : tie.Need-returns Inv μ
+not-in-avet : tie.Need-returns-then-not-is_row Inv μ
 not-in-avet c =
     let b = c.before.before in
-    c.refuse.ensures ∙ sym (simp (in_avet b, not-true b.is_row.result c.before.if1.true) at (turn b.before.before.before.before))
+    c.refuse.ensures ∙ sym (simp (in_avet b, not-true b.is_row.result c.if-not-is_row.true-raw) at (turn b.before.before.before.before))
 
-not-in-eavt : tie.Need-returns-2 Inv μ
+not-in-eavt : tie.Need-returns-then-not-is_row-2 Inv μ
 not-in-eavt c =
     let d = c.before.before in
     let b = d.before.before in
-    c.refuse2.ensures ∙
+    c.refuse-then-not-is_row-2.ensures ∙
     sym
-    (simp (in_avet b, not-false b.is_row.result d.before.if1.false, in_eavt d, not-true d.is-row2.result c.before.if2.true) at
+    (simp (in_avet b, not-false b.is_row.result d.if-not-is_row.false-raw, in_eavt d, not-true d.is_row-in-loop-i.result c.if-not-is_row-2.true-raw) at
     (turn b.before.before.before.before))
 
-again : tie.Need-loop-preserved Inv μ
+again : tie.Need-loop-i-preserved Inv μ
 again c =
     let d = c.before in
     let b = d.before.before in (
       refl,
-      simp (in_avet b, not-false b.is_row.result d.before.if1.false, in_eavt d, not-false d.is-row2.result c.if2.false) at
+      simp (in_avet b, not-false b.is_row.result d.if-not-is_row.false-raw, in_eavt d, not-false d.is_row-in-loop-i.result c.if-not-is_row-2.false-raw) at
           (turn b.before.before.before.before),
     )
 
-done : tie.Need-returns-3 Inv μ
+done : tie.Need-returns Inv μ
 unfolding missing_fault refuse_first first_fault
 done c =
-    let a = c.before.before.before.before.before.args in
-    sym (rw (span-end (count a.aevt.now) c.before.loop.i (omega arith)) at c.before.loop.invariant.1)
+    let a = c.args in
+    sym (rw (span-end (count a.aevt.now) c.loop-i.i (omega arith)) at c.loop-i.invariant.1)
 
-pub check-missing-spec : {M : Type 1} → statement M
-check-missing-spec =
+pub check_missing_spec : {M : Type 1} → statement M
+check_missing_spec =
     tie.close
     (tie.spec
     Inv

@@ -11,57 +11,57 @@ use Rattle.tables.proofs.check_tables.Statement.{statement}
 use Rattle.tables.proofs.check_tables.Tie as tie
 
 -- past each test, what it found
-lengths : (c : tie.After-enum-told2) →
-    let a = c.before.before.before.before.before.before.args in
+lengths : (c : tie.In_default) →
+    let a = c.args in
     lengths_fault (length a.aevt.now) (length a.avet.now) (length a.eavt.now) ≡ Fine
-lengths c = sym c.before.before.check-lengths.ensures ∙ c.enum-told2.given.1
+lengths c = sym c.check_lengths-lengths.ensures ∙ c.in_default.is
 
-aevt-ascends : (c : tie.Else1) → ascending (rows_of c.before.before.before.before.before.before.before.before.args.aevt.now) ≡ true
-aevt-ascends c = sym c.before.is-ascending.ensures ∙ not-false _ c.if1.false
+aevt-ascends : (c : tie.Else-not-is_ascending) → ascending (rows_of c.args.aevt.now) ≡ true
+aevt-ascends c = sym c.is_ascending.ensures ∙ not-false _ c.if-not-is_ascending.false-raw
 
-avet-ascends : (c : tie.Else2) →
-    ascending (rows_of c.before.before.before.before.before.before.before.before.before.before.args.avet.now) ≡ true
-avet-ascends c = sym c.before.is-ascending2.ensures ∙ not-false _ c.if2.false
+avet-ascends : (c : tie.Else-not-is_ascending-2) →
+    ascending (rows_of c.args.avet.now) ≡ true
+avet-ascends c = sym c.is_ascending-2.ensures ∙ not-false _ c.if-not-is_ascending-2.false-raw
 
-eavt-ascends : (c : tie.Else3) →
-    ascending (rows_of c.before.before.before.before.before.before.before.before.before.before.before.before.args.eavt.now) ≡ true
-eavt-ascends c = sym c.before.is-ascending3.ensures ∙ not-false _ c.if3.false
+eavt-ascends : (c : tie.Else-not-is_ascending-3) →
+    ascending (rows_of c.args.eavt.now) ≡ true
+eavt-ascends c = sym c.is_ascending-3.ensures ∙ not-false _ c.if-not-is_ascending-3.false-raw
 
-wrong-lengths : tie.Need-returns
+wrong-lengths : tie.Need-returns-in-Refused
 unfolding tables_fault
-wrong-lengths c = c.enum_told.given.1 ∙ simp (sym c.before.before.check-lengths.ensures ∙ c.enum_told.given.1)
+wrong-lengths c = c.in-Refused.is ∙ simp (sym c.check_lengths-lengths.ensures ∙ c.in-Refused.is)
 
-aevt-falls : tie.Need-returns-2
+aevt-falls : tie.Need-returns-then-not-is_ascending
 unfolding tables_fault
 aevt-falls c =
     let b = c.before.before in
-    c.refuse.ensures ∙ simp (lengths b.before, sym b.is-ascending.ensures ∙ not-true _ c.before.if1.true)
+    c.refuse.ensures ∙ simp (lengths b.before, sym b.is_ascending.ensures ∙ not-true _ c.if-not-is_ascending.true-raw)
 
-avet-falls : tie.Need-returns-3
+avet-falls : tie.Need-returns-then-not-is_ascending-2
 unfolding tables_fault
 avet-falls c =
     let b = c.before.before in
-    c.refuse2.ensures ∙
-    simp (lengths b.before.before.before, aevt-ascends b.before, sym b.is-ascending2.ensures ∙ not-true _ c.before.if2.true)
+    c.refuse-then-not-is_ascending-2.ensures ∙
+    simp (lengths b.before.before.before, aevt-ascends b.before, sym b.is_ascending-2.ensures ∙ not-true _ c.if-not-is_ascending-2.true-raw)
 
-eavt-falls : tie.Need-returns-4
+eavt-falls : tie.Need-returns-then-not-is_ascending-3
 unfolding tables_fault
 eavt-falls c =
     let b = c.before.before in
     let d = b.before.before.before in
-    c.refuse3.ensures ∙
-    simp (lengths d.before.before, aevt-ascends d, avet-ascends b.before, sym b.is-ascending3.ensures ∙ not-true _ c.before.if3.true)
+    c.refuse-then-not-is_ascending-3.ensures ∙
+    simp (lengths d.before.before, aevt-ascends d, avet-ascends b.before, sym b.is_ascending-3.ensures ∙ not-true _ c.if-not-is_ascending-3.true-raw)
 
-last : tie.Need-returns-5
+last : tie.Need-returns
 unfolding tables_fault
 last c =
     let b = c.before in
     let d = b.before.before in
     let e = d.before.before in
-    c.check-missing.ensures ∙ sym (simp (lengths e.before.before, aevt-ascends e, avet-ascends d, eavt-ascends b))
+    c.check_missing.ensures ∙ sym (simp (lengths e.before.before, aevt-ascends e, avet-ascends d, eavt-ascends b))
 
-pub check-tables-spec : {M : Type 1} → statement M
-check-tables-spec =
+pub check_tables_spec : {M : Type 1} → statement M
+check_tables_spec =
     tie.close
     (tie.spec
     (λ c κs. search rules)

@@ -5,24 +5,24 @@ use Rattle.tables.proofs.WordByWord.{before-words, key-0, first-apart, key-1, se
 use Rattle.tables.proofs.comes_before.Statement.{statement}
 use Rattle.tables.proofs.comes_before.Tie as tie
 
-pub comes-before-spec : {M : Type 1} → statement M
-comes-before-spec =
+pub comes_before_spec : {M : Type 1} → statement M
+comes_before_spec =
     tie.close
     (tie.spec
-    (λ c. sym (key-0 before-words _ _ c.before.requires _ _ _ _ c.if1.true))
+    (λ c. sym (key-0 before-words _ _ c.requires _ _ _ _ c.if-inputs-eq0.true))
     (λ c. search rules)
     (λ c. search rules)
     (λ c. search rules)
-    (λ c. sym (first-apart before-words _ _ c.before.before.before.requires _ _ _ _ c.before.before.if1.false c.if2.true))
-    (λ c. sym (key-1 before-words _ _ c.before.before.before.before.requires _ _ _ _ c.if3.true c.before.if2.false))
-    (λ c. search rules)
-    (λ c. search rules)
-    (λ c. search rules)
-    (λ c. search rules)
-    (λ c. sym (second-apart before-words _ _ c.before.before.before.before.before.before.requires _ _ _ _ c.before.before.before.before.before.if1.false c.before.before.if3.false c.before.before.before.if2.false c.if4.true))
-    (λ c. sym (key-2 before-words _ _ c.before.before.before.before.before.before.before.requires _ _ _ _ c.if5.true c.before.before.before.before.if2.false c.before.if4.false))
+    (λ c. sym (first-apart before-words _ _ c.requires _ _ _ _ c.if-inputs-eq0.false c.if-word-first.true))
+    (λ c. sym (key-1 before-words _ _ c.requires _ _ _ _ c.if-inputs-eq1.true c.if-word-first.false))
     (λ c. search rules)
     (λ c. search rules)
     (λ c. search rules)
     (λ c. search rules)
-    (λ c. sym (third before-words _ _ c.before.before.before.before.before.before.before.before.requires _ _ _ _ c.before.before.before.before.before.before.before.if1.false c.before.before.before.before.if3.false c.before.if5.false c.before.before.before.before.before.if2.false c.before.before.if4.false)))
+    (λ c. sym (second-apart before-words _ _ c.requires _ _ _ _ c.if-inputs-eq0.false c.if-inputs-eq1.false c.if-word-first.false c.if-word-second.true))
+    (λ c. sym (key-2 before-words _ _ c.requires _ _ _ _ c.if-inputs-eq2.true c.if-word-first.false c.if-word-second.false))
+    (λ c. search rules)
+    (λ c. search rules)
+    (λ c. search rules)
+    (λ c. search rules)
+    (λ c. sym (third before-words _ _ c.requires _ _ _ _ c.if-inputs-eq0.false c.if-inputs-eq1.false c.if-inputs-eq2.false c.if-word-first.false c.if-word-second.false)))

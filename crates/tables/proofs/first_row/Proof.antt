@@ -7,14 +7,14 @@ use Rattle.tables.proofs.Search.{Firsts, before_falls, between_start, between-up
 use Rattle.tables.proofs.first_row.Statement.{statement}
 use Rattle.tables.proofs.first_row.Tie as tie
 
-abbrev Inv : tie.invariant-loop
+abbrev Inv : tie.invariant-loop-low
 Inv t n a b c low₀ high₀ low high = Firsts t (key n a b c) low high
 
-abbrev μ : tie.decreases-loop
+abbrev μ : tie.decreases-loop-low
 μ t n a b c low₀ high₀ low high = high - low
 
-pub first-row-spec : {M : Type 1} → statement M
-first-row-spec =
+pub first_row_spec : {M : Type 1} → statement M
+first_row_spec =
     tie.close
     (tie.spec
     Inv
@@ -26,10 +26,10 @@ first-row-spec =
     (λ c. omega arith)
     (λ c. omega arith)
     (λ c.
-    between-up (λ asc j k _. before_falls _ asc _ j k) c.before.before.before.loop.invariant _ (omega arith) (omega arith)
-    (sym c.before.comes-before.ensures ∙ c.if1.true))
+    between-up (λ asc j k _. before_falls _ asc _ j k) c.loop-low.invariant _ (omega arith) (omega arith)
+    (sym c.comes_before.ensures ∙ c.if-comes_before.true))
     (λ c. omega arith)
     (λ c.
-    between-down (λ asc j k _. before_falls _ asc _ j k) c.before.before.before.loop.invariant _ (omega arith) (omega arith)
-    (sym c.before.comes-before.ensures ∙ c.if1.false))
-    (λ c. first_found c.before.loop.invariant c.loop-test.false))
+    between-down (λ asc j k _. before_falls _ asc _ j k) c.loop-low.invariant _ (omega arith) (omega arith)
+    (sym c.comes_before.ensures ∙ c.if-comes_before.false))
+    (λ c. first_found c.loop-low.invariant c.loop-low-test.false))

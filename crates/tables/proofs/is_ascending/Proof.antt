@@ -12,49 +12,49 @@ use Rattle.tables.proofs.Table.{before-row, ascending-step, ascending-end}
 use Rattle.tables.proofs.is_ascending.Statement.{statement}
 use Rattle.tables.proofs.is_ascending.Tie as tie
 
-abbrev Inv : tie.invariant-loop
+abbrev Inv : tie.invariant-loop-i
 Inv t n i₀ i = (n ≡ count t) × (1 ≤ i) × (ascending (rows_of t) ≡ ascending (map (row t) (span (i - 1) (n - (i - 1)))))
 
-abbrev μ : tie.decreases-loop
+abbrev μ : tie.decreases-loop-i
 μ t n i₀ i = n - i
 
 -- what the comparison of row i with the one before it found
-seen : (c : tie.After-comes-before Inv μ) →
+seen : (c : tie.After-comes_before Inv μ) →
     let l = c.before.before.before.before in
-    let t = l.before.before.before.args.table.now in
-    let i = l.before.loop.i in before (row t (i - 1)) (row t i) ≡ c.comes-before.result
+    let t = l.args.table.now in
+    let i = l.loop-i.i in before (row t (i - 1)) (row t i) ≡ c.comes_before.result
 seen c =
     let l = c.before.before.before.before in
-    let t = l.before.before.before.args.table.now in
-    let i = l.before.loop.i in
-    sym (c.comes-before.ensures ∙ before-row t i (omega arith) (row t (i - 1)))
+    let t = l.args.table.now in
+    let i = l.loop-i.i in
+    sym (c.comes_before.ensures ∙ before-row t i (omega arith) (row t (i - 1)))
 
 -- it decides, and then the rows from i on
-turn : (c : tie.After-comes-before Inv μ) →
+turn : (c : tie.After-comes_before Inv μ) →
     let l = c.before.before.before.before in
-    let t = l.before.before.before.args.table.now in
-    let i = l.before.loop.i in
-    ascending (rows_of t) ≡ (c.comes-before.result && ascending (map (row t) (span i (count t - i))))
+    let t = l.args.table.now in
+    let i = l.loop-i.i in
+    ascending (rows_of t) ≡ (c.comes_before.result && ascending (map (row t) (span i (count t - i))))
 turn c =
     let l = c.before.before.before.before in
-    let t = l.before.before.before.args.table.now in
-    let i = l.before.loop.i in
+    let t = l.args.table.now in
+    let i = l.loop-i.i in
     let e : i - 1 + 1 ≡ i = omega arith in
-    rw (seen c) at (l.before.loop.invariant.2 ∙ rw e at (ascending-step (row t) (count t) (i - 1) (omega arith)))
+    rw (seen c) at (l.loop-i.invariant.2 ∙ rw e at (ascending-step (row t) (count t) (i - 1) (omega arith)))
 
-done : tie.Need-returns-2 Inv μ
+done : tie.Need-returns Inv μ
 done c =
-    let t = c.before.before.before.args.table.now in
-    sym (c.before.loop.invariant.2 ∙ ascending-end (row t) (count t) (c.before.loop.i - 1) (omega arith))
+    let t = c.args.table.now in
+    sym (c.loop-i.invariant.2 ∙ ascending-end (row t) (count t) (c.loop-i.i - 1) (omega arith))
 
-again : tie.Need-loop-preserved Inv μ
+again : tie.Need-loop-i-preserved Inv μ
 again c =
-    let i = c.before.before.before.before.before.before.loop.i in
+    let i = c.loop-i.i in
     let e : i + 1 - 1 ≡ i = omega arith in
-    (refl, omega arith, rw e (rw (not-false c.before.comes-before.result c.if1.false) at (turn c.before)))
+    (refl, omega arith, rw e (rw (not-false c.comes_before.result c.if-not-comes_before.false-raw) at (turn c.before)))
 
-pub is-ascending-spec : {M : Type 1} → statement M
-is-ascending-spec =
+pub is_ascending_spec : {M : Type 1} → statement M
+is_ascending_spec =
     tie.close
     (tie.spec
     Inv
@@ -73,7 +73,7 @@ is-ascending-spec =
     (λ c. omega arith)
     (λ c. omega arith)
     (λ c κs. omega arith)
-    (λ c. sym (rw (not-true c.before.comes-before.result c.if1.true) at (turn c.before)))
+    (λ c. sym (rw (not-true c.comes_before.result c.if-not-comes_before.true-raw) at (turn c.before)))
     (λ c. omega arith)
     (λ c. omega arith)
     again

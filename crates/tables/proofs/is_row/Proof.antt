@@ -5,11 +5,11 @@ use Rattle.tables.proofs.Among.{among-bound, among-past}
 use Rattle.tables.proofs.is_row.Statement.{statement}
 use Rattle.tables.proofs.is_row.Tie as tie
 
-pub is-row-spec : {M : Type 1} → statement M
-is-row-spec =
+pub is_row_spec : {M : Type 1} → statement M
+is_row_spec =
     tie.close
     (tie.spec
     (λ c κs. search rules)
     (λ c κs. search rules)
-    (λ c asc. c.begins-with.ensures ∙ among-bound _ _ _ refl c.before.before.first-row.ensures asc c.before.if1.true)
-    (λ c asc. among-past _ _ _ refl c.before.first-row.ensures asc c.if1.false))
+    (λ c asc. c.begins_with.ensures ∙ among-bound _ _ _ refl c.first_row-i.ensures asc c.if-i-table.true)
+    (λ c asc. among-past _ _ _ refl c.first_row-i.ensures asc c.if-i-table.false))

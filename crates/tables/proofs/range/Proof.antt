@@ -4,8 +4,8 @@ use Rattle.tables.proofs.Matching.{range-found}
 use Rattle.tables.proofs.range.Statement.{statement}
 use Rattle.tables.proofs.range.Tie as tie
 
-pub range-spec : {M : Type 1} → statement M
-range-spec =
+pub range_spec : {M : Type 1} → statement M
+range_spec =
     tie.close
     (tie.spec
     (λ c κs. search rules)
@@ -16,4 +16,4 @@ range-spec =
     (λ c. search rules)
     (λ c. search rules)
     (λ c. search rules)
-    (λ c. range-found _ _ _ _ c.before.before.first-row.ensures c.before.past-rows.ensures))
+    (λ c. range-found _ _ _ _ c.first_row-from.ensures c.past_rows-to.ensures))

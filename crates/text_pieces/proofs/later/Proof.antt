@@ -6,5 +6,5 @@ use borrow.Author.Rules.{rules}
 use Rattle.text_pieces.proofs.later.Statement.{statement}
 use Rattle.text_pieces.proofs.later.Tie as tie
 
-pub later-spec : {M : Type 1} → statement M
-later-spec = tie.close (tie.spec (λ c. search rules) (λ c. omega arith) (λ c. sym (min-eq_right (omega arith))) (λ c. sym (min-eq_left (omega arith))))
+pub later_spec : {M : Type 1} → statement M
+later_spec = tie.close (tie.spec (λ c. search rules) (λ c. omega arith) (λ c. sym (min-eq_right (omega arith))) (λ c. sym (min-eq_left (omega arith))))

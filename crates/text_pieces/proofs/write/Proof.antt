@@ -8,10 +8,10 @@ use Rattle.text_pieces.proofs.write.Tie as tie
 
 written : tie.Need-returns
 written c =
-    let a = c.before.before.before.before.before.before.before.before.args in
+    let a = c.args in
     record {
       position_is = c.later.ensures;
-      buffer_is = c.before.before.before.copy.ensures ∙ sets-fitting a.piece.now a.out.now a.at _ c.before.before.before.before.before.fitting.ensures;
+      buffer_is = c.copy.ensures ∙ sets-fitting a.piece.now a.out.now a.at _ c.fitting-count.ensures;
       within = (omega arith, omega arith);
     }
 

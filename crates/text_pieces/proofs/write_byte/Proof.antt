@@ -6,18 +6,18 @@ use Rattle.text_pieces.specs.Escaped.{escaped_byte}
 use Rattle.text_pieces.proofs.write_byte.Statement.{statement}
 use Rattle.text_pieces.proofs.write_byte.Tie as tie
 
-plain : tie.Need-returns
+plain : tie.Need-returns-then-is_plain
 unfolding escaped_byte
-plain c = rw (sym c.before.before.before.before.before.before.is_plain.ensures ∙ c.before.before.before.before.before.if1.true) c.before.before.write.ensures
+plain c = rw (sym c.is_plain.ensures ∙ c.if-is_plain.true) c.write.ensures
 
-other : tie.Need-returns-2
+other : tie.Need-returns-then-is_plain
 unfolding escaped_byte
 other c =
     let a = c.before.before.before.before.before.before.before.before in
-    rw (sym a.is_plain.ensures ∙ c.before.before.before.before.before.before.before.if1.false, ← c.before.before.before.before.before.before.hex-digit.ensures, ← c.before.before.before.before.before.hex-digit2.ensures) c.before.before.write2.ensures
+    rw (sym a.is_plain.ensures ∙ c.if-is_plain.false, ← c.hex_digit-high.ensures, ← c.hex_digit-low.ensures) c.write-2.ensures
 
-pub write-byte-spec : {M : Type 1} → statement M
-write-byte-spec =
+pub write_byte_spec : {M : Type 1} → statement M
+write_byte_spec =
     tie.close
     (tie.spec
     (λ c κs. search rules)

@@ -12,30 +12,30 @@ use Rattle.text_pieces.proofs.Written.{written_none, written_then, written-lengt
 use Rattle.text_pieces.proofs.write_escaped.Statement.{statement}
 use Rattle.text_pieces.proofs.write_escaped.Tie as tie
 
-abbrev Inv : tie.invariant-loop
+abbrev Inv : tie.invariant-loop-i
 Inv name at out₀ end₀ i₀ out end i = (i ≤ length name) × Written (escaped (take i name)) at out₀ end out
 
-abbrev μ : tie.decreases-loop
+abbrev μ : tie.decreases-loop-i
 μ name at out₀ end₀ i₀ out end i = length name - i
 
-holds : tie.Need-loop-init Inv μ
+holds : tie.Need-loop-i-init Inv μ
 holds c = (omega arith, rw (← (laid_none escaped_byte)) (written_none (omega arith) (omega arith)))
 
-again : tie.Need-loop-preserved Inv μ
+again : tie.Need-loop-i-preserved Inv μ
 again c =
-    let loop = c.before.before.before.before.before.before.loop in
-    let name = c.before.before.before.before.before.before.before.before.before.args.name.now in
-    (omega arith, rw (laid-step escaped_byte name loop.i 0 (omega arith)) (written_then loop.invariant.1 c.before.before.write_byte.ensures))
+    let loop = c.loop-i in
+    let name = c.args.name.now in
+    (omega arith, rw (laid-step escaped_byte name loop.i 0 (omega arith)) (written_then loop.invariant.1 c.write_byte-end.ensures))
 
 returns : tie.Need-returns Inv μ
 returns c =
-    let name = c.before.before.before.before.args.name.now in
-    let loop = c.before.loop in
+    let name = c.args.name.now in
+    let loop = c.loop-i in
     let whole : length name ≤ loop.i = omega arith in
     rw (take_all loop.i name whole) at loop.invariant.1
 
-pub write-escaped-spec : {M : Type 1} → statement M
-write-escaped-spec =
+pub write_escaped_spec : {M : Type 1} → statement M
+write_escaped_spec =
     tie.close
     (tie.spec
     Inv
@@ -46,5 +46,5 @@ write-escaped-spec =
     (λ c. search rules)
     (λ c. search rules)
     again
-    (λ c. written-length c.before.loop.invariant.1)
+    (λ c. written-length c.loop-i.invariant.1)
     returns)

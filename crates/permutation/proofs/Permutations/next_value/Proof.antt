@@ -11,34 +11,34 @@ use Rattle.permutation.proofs.Look.{fine-few, next-gives, next-turns, next-ends}
 use Rattle.permutation.proofs.Permutations.next_value.Statement.{statement}
 use Rattle.permutation.proofs.Permutations.next_value.Tie as tie
 
-abbrev invariant-loop : tie.invariant-loop
+abbrev invariant-loop : tie.invariant-loop-i
 invariant-loop n ks₀ i₀ ks i = (n ≤ max_elements) × (length ks ≡ max_elements) × (next_swap_of (state_of n ks₀ i₀) ≡ next_swap_of (state_of n ks i))
 
-abbrev decreases-loop : tie.decreases-loop
+abbrev decreases-loop : tie.decreases-loop-i
 decreases-loop n ks₀ i₀ ks i = n - i
 
-returns : tie.Need-returns invariant-loop decreases-loop
+returns : tie.Need-returns-in-Refused invariant-loop decreases-loop
 unfolding next_swap_of
-returns c = simp (← c.before.before.elements-fault.ensures, c.enum_told.given.1)
+returns c = simp (← c.elements_fault-verdict.ensures, c.in-Refused.is)
 
-loop-holds : tie.Need-loop-init invariant-loop decreases-loop
-loop-holds c = (fine-few _ (sym c.before.before.before.elements-fault.ensures ∙ c.before.enum-told2.given.1), search rules, refl)
+loop-holds : tie.Need-loop-i-init invariant-loop decreases-loop
+loop-holds c = (fine-few _ (sym c.elements_fault-verdict.ensures ∙ c.in_default.is), search rules, refl)
 
-returns-2 : tie.Need-returns-2 invariant-loop decreases-loop
-returns-2 c = sym (c.before.before.before.loop.invariant.2 ∙ next-gives _ _ _ (omega arith) (omega arith) (omega arith) ∙ simp (eq-eqb _ 0 c.if2.true))
+returns-2 : tie.Need-returns-then-i-eq0 invariant-loop decreases-loop
+returns-2 c = sym (c.loop-i.invariant.2 ∙ next-gives _ _ _ (omega arith) (omega arith) (omega arith) ∙ simp (eq-eqb _ 0 c.if-i-eq0.true))
 
-returns-3 : tie.Need-returns-3 invariant-loop decreases-loop
-returns-3 c = sym (c.before.before.before.loop.invariant.2 ∙ next-gives _ _ _ (omega arith) (omega arith) (omega arith) ∙ simp (ne_eqb _ 0 c.if2.false))
+returns-3 : tie.Need-returns-else-i-eq0 invariant-loop decreases-loop
+returns-3 c = sym (c.loop-i.invariant.2 ∙ next-gives _ _ _ (omega arith) (omega arith) (omega arith) ∙ simp (ne_eqb _ 0 c.if-i-eq0.false))
 
-loop-again : tie.Need-loop-preserved invariant-loop decreases-loop
+loop-again : tie.Need-loop-i-preserved invariant-loop decreases-loop
 loop-again c =
-    (omega arith, simp length-set (omega arith), c.before.before.loop.invariant.2 ∙ next-turns _ _ _ (omega arith) (omega arith) (omega arith) (omega arith))
+    (omega arith, simp length-set (omega arith), c.loop-i.invariant.2 ∙ next-turns _ _ _ (omega arith) (omega arith) (omega arith) (omega arith))
 
-returns-4 : tie.Need-returns-4 invariant-loop decreases-loop
-returns-4 c = sym (c.before.loop.invariant.2 ∙ next-ends _ _ _ (omega arith) (omega arith))
+returns-4 : tie.Need-returns invariant-loop decreases-loop
+returns-4 c = sym (c.loop-i.invariant.2 ∙ next-ends _ _ _ (omega arith) (omega arith))
 
-pub next-value-spec : {M : Type 1} → statement M
-next-value-spec =
+pub next_value_spec : {M : Type 1} → statement M
+next_value_spec =
     tie.close
     (tie.spec
     invariant-loop
