@@ -29,7 +29,7 @@ last-long : tie.Need-shape_of-out-then-left-room Inv μ
 last-long c =
     let turn = c.loop-i in
     let a = c.args in
-    ap length c.write_last.ensures ∙ length-sets turn.out-1 turn.i (packed (bits turn.count turn.held ++ bits turn.left a.value)) ∙ turn.invariant.2
+    ap length c.write_last.ensures ∙ length-sets turn.out turn.i (packed (bits turn.count turn.held ++ bits turn.left a.value)) ∙ turn.invariant.2
 
 last : tie.Need-returns-then-left-room Inv μ
 last c = c.write_last.ensures ∙ c.loop-i.invariant.3
@@ -50,13 +50,13 @@ again c =
     c.behind.ensures ∙ ap (λ (x : ℕ). turn.held * 2 ^ (8 - turn.count) + x % 2 ^ (8 - turn.count)) c.above.ensures in (
       omega arith,
       pow_pos 0,
-      length-set turn.out-1 _ _ ∙ turn.invariant.2,
-      sym (byte-written turn.out-1 turn.i turn.count (8 - turn.count) turn.left (turn.left - (8 - turn.count)) turn.held a.value _
+      length-set turn.out _ _ ∙ turn.invariant.2,
+      sym (byte-written turn.out turn.i turn.count (8 - turn.count) turn.left (turn.left - (8 - turn.count)) turn.held a.value _
           (omega (arith, turn.invariant.0)) (omega arith) turn.invariant.1 is) ∙ turn.invariant.3,
     )
 
-done : tie.Need-returns-then-left-room Inv μ
-done c = let turn = c.loop-i in sym (sets-past (packed (bits turn.count turn.held ++ bits turn.left _)) turn.out-1 turn.i (omega arith)) ∙ turn.invariant.3
+done : tie.Need-returns Inv μ
+done c = let turn = c.loop-i in sym (sets-past (packed (bits turn.count turn.held ++ bits turn.left _)) turn.out turn.i (omega arith)) ∙ turn.invariant.3
 
 pub write_behind_spec : {M : Type 1} → statement M
 write_behind_spec =

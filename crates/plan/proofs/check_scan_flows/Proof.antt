@@ -27,7 +27,7 @@ over c = simp (lt-ltb _ _ c.if-scan_count-gt-MAX_SCANS.true) c.refuse.ensures
 start : tie.Need-loop-i_scan-init Inv μ
 unfolding scan_flows_fault
 start c =
-    let h : length c.args.t1 ≡ max_scans = search rules in
+    let h : length c.args.scans ≡ max_scans = search rules in
     (record { within = omega arith; fits = omega arith; rest = refl }, simp (le-ltb _ _ c.if-scan_count-gt-MAX_SCANS.false))
 
 found : tie.Need-returns-then-is_out_out_eavt Inv μ

@@ -24,8 +24,8 @@ abbrev write-decimal-below : ℕ → In 1 write-decimal-kinds.ps
 write-decimal-below t =
     and 1 write-decimal-kinds.ps (falls 1 write-decimal-kinds.ps ◌<◌ μ-write-decimal t) write-decimal.Pre
 
-pub +write-decimal-spec : {M : Type 1} → statement M
-+write-decimal-spec = close μ-write-decimal λ t. write-decimal-lts.spec (
+pub +write_decimal_spec : {M : Type 1} → statement M
++write_decimal_spec = close μ-write-decimal λ t. write-decimal-lts.spec (
   write-digit-reads.Asked,
   write-digit-reads.Learnt,
   write-decimal-below t,
@@ -35,8 +35,8 @@ pub +write-decimal-spec : {M : Type 1} → statement M
     write-decimal.Post
     (λ c κs. search rules)
     (λ c. search rules)
-    (λ c. let h : c.before.before.before.before.before.before.args.number < 10 = omega arith in rw (decimal-one _ h) c.before.before.write-digit.ensures)
+    (λ c. let h : c.args.number < 10 = omega arith in rw (decimal-one _ h) c.write_digit.ensures)
     (λ c κs. (omega arith, tt))
     (λ c κs. omega arith)
     (λ c. search rules)
-    (λ c. let h : 10 ≤ c.before.before.before.before.before.before.before.before.before.before.args.number = omega arith in rw (decimal-more _ h) (written_then c.before.before.before.before.before.before.write-decimal.ensures c.before.before.write-digit2.ensures))
+    (λ c. let h : 10 ≤ c.args.number = omega arith in rw (decimal-more _ h) (written_then c.write_decimal-next.ensures c.write_digit-2.ensures))

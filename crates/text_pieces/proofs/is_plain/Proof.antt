@@ -21,5 +21,5 @@ is_plain_spec =
     let f4 = f5.before in
     let f3 = f4.before in
     let f2 = f3.before in
-    let f1 = f2.before in
+    let f1 = f2 in
     plain-last _ f1.if-byte-lt33.false f2.if-byte-gt126.false f3.if-byte-eq58.false f4.if-byte-eq44.false f5.if-byte-eq40.false c.if-byte-eq41.false))

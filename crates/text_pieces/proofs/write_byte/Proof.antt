@@ -10,10 +10,10 @@ plain : tie.Need-returns-then-is_plain
 unfolding escaped_byte
 plain c = rw (sym c.is_plain.ensures ∙ c.if-is_plain.true) c.write.ensures
 
-other : tie.Need-returns-then-is_plain
+other : tie.Need-returns
 unfolding escaped_byte
 other c =
-    let a = c.before.before.before.before.before.before.before.before in
+    let a = c in
     rw (sym a.is_plain.ensures ∙ c.if-is_plain.false, ← c.hex_digit-high.ensures, ← c.hex_digit-low.ensures) c.write-2.ensures
 
 pub write_byte_spec : {M : Type 1} → statement M
