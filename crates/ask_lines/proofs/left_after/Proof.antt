@@ -5,16 +5,16 @@ use Rattle.ask_lines.specs.Lines.{left_after}
 use Rattle.ask_lines.proofs.left_after.Statement.{statement}
 use Rattle.ask_lines.proofs.left_after.Tie as tie
 
-last : tie.Need-returns
+last : tie.Need-returns-then-left-le1
 unfolding left_after
-last c = rw (le-leb _ 1 c.if1.true)
+last c = rw (le-leb _ 1 c.if-left-le1.true)
 
-other : tie.Need-returns-2
+other : tie.Need-returns
 unfolding left_after
-other c = rw (lt-leb _ 1 c.if1.false)
+other c = rw (lt-leb _ 1 c.if-left-le1.false)
 
-pub left-after-spec : {M : Type 1} → statement M
-left-after-spec =
+pub left_after_spec : {M : Type 1} → statement M
+left_after_spec =
     tie.close
     (tie.spec
     last

@@ -4,7 +4,10 @@ use Rattle.ask_lines.proofs.write_outside.Statement.{statement}
 use Rattle.ask_lines.proofs.write_outside.Tie as tie
 
 line : tie.Need-returns
-line c = c.before.before.write.ensures
+line c = c.write.ensures
 
-pub write-outside-spec : {M : Type 1} → statement M
-write-outside-spec = tie.close (tie.spec (λ c. search rules) (λ c κs. search rules) (λ c. search rules) line)
+pub write_outside_spec : {M : Type 1} → statement M
+write_outside_spec = tie.close (tie.spec
+    (λ c κs. search rules)
+    (λ c. search rules)
+    line)

@@ -8,20 +8,18 @@ use Rattle.ask_lines.proofs.Rows.{SoFar, none_yet, one_more, all-written}
 use Rattle.ask_lines.proofs.write_rows.Statement.{statement}
 use Rattle.ask_lines.proofs.write_rows.Tie as tie
 
-abbrev Inv : tie.invariant-loop
+abbrev Inv : tie.invariant-loop-i
 Inv words width start out₀ at₀ left₀ i₀ out at left i = SoFar words width start out₀ out at left i
 
-abbrev μ : tie.decreases-loop
+abbrev μ : tie.decreases-loop-i
 μ words width start out₀ at₀ left₀ i₀ out at left i = length words - i
 
-again : tie.Need-loop-preserved Inv μ
+again : tie.Need-loop-i-preserved Inv μ
 again c =
-    let w = c.before.before.before in
-    let t = w.before.before.before in
-    rw c.left_After.ensures (one_more t.before.loop.invariant t.loop-test.true w.write_word.ensures)
+    rw c.left_after-left.ensures (one_more c.loop-i.invariant c.loop-i-test.true c.write_word-at.ensures)
 
-pub write-rows-spec : {M : Type 1} → statement M
-write-rows-spec =
+pub write_rows_spec : {M : Type 1} → statement M
+write_rows_spec =
     tie.close
     (tie.spec
     Inv
@@ -34,5 +32,5 @@ write-rows-spec =
     (λ c. search rules)
     (λ c. search rules)
     again
-    (λ c. written-length c.before.loop.invariant.is_written)
-    (λ c. all-written c.before.loop.invariant c.loop-test.false))
+    (λ c. written-length c.loop-i.invariant.is_written)
+    (λ c. all-written c.loop-i.invariant c.loop-i-test.false))

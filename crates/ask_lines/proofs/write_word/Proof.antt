@@ -6,30 +6,24 @@ use Rattle.ask_lines.specs.Lines.{word_text}
 use Rattle.ask_lines.proofs.write_word.Statement.{statement}
 use Rattle.ask_lines.proofs.write_word.Tie as tie
 
-last : tie.Need-returns
+last : tie.Need-returns-then-left-le1
 unfolding word_text
 last c =
-    let s2 = c.before.before in
-    let t = s2.before.before.before in
-    rw (le-leb _ 1 t.if1.true) (written_then t.before.before.before.write-decimal.ensures s2.write.ensures)
+    rw (le-leb _ 1 c.if-left-le1.true) (written_then c.write_decimal-at.ensures c.write.ensures)
 
-other : tie.Need-returns-2
+other : tie.Need-returns
 unfolding word_text
 other c =
-    let s2 = c.before.before in
-    let t = s2.before.before.before in
-    rw (lt-leb _ 1 t.if1.false) (written_then t.before.before.before.write-decimal.ensures s2.write2.ensures)
+    rw (lt-leb _ 1 c.if-left-le1.false) (written_then c.write_decimal-at.ensures c.write-2.ensures)
 
-pub write-word-spec : {M : Type 1} → statement M
-write-word-spec =
+pub write_word_spec : {M : Type 1} → statement M
+write_word_spec =
     tie.close
     (tie.spec
     (λ c κs. search rules)
-    (λ c. search rules)
     (λ c κs. search rules)
     (λ c. written-length (last c))
     last
-    (λ c. search rules)
     (λ c κs. search rules)
     (λ c. written-length (other c))
     other)

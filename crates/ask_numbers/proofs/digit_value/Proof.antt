@@ -4,8 +4,8 @@ use Rattle.ask_numbers.proofs.Bytes.{digit-least}
 use Rattle.ask_numbers.proofs.digit_value.Statement.{statement}
 use Rattle.ask_numbers.proofs.digit_value.Tie as tie
 
-pub digit-value-spec : {M : Type 1} → statement M
-digit-value-spec =
+pub digit_value_spec : {M : Type 1} → statement M
+digit_value_spec =
     tie.close
     (tie.spec
     (λ c. digit-least _ c.requires)

@@ -11,63 +11,63 @@ use Rattle.ask_numbers.proofs.Saying.{after-end, after-space, after_more, after-
 use Rattle.ask_numbers.proofs.digits_at.Statement.{statement}
 use Rattle.ask_numbers.proofs.digits_at.Tie as tie
 
-abbrev Inv : tie.invariant-loop
+abbrev Inv : tie.invariant-loop-at
 Inv text start first value₀ at₀ value at = (start ≤ at) × (at ≤ length text) × (said_after (drop start text) first ≡ said_after (drop at text) value)
 
-abbrev μ : tie.decreases-loop
+abbrev μ : tie.decreases-loop-at
 μ text start first value₀ at₀ value at = length text - at
 
-read : tie.Need-returns Inv μ
+read : tie.Need-returns-then-is_space Inv μ
 read c =
-    let l = c.before.before.before.before.loop in
+    let l = c.loop-at in
     record {
       onward = λ _. l.invariant.0;
       within = λ _. l.invariant.1;
-      reads = λ _. l.invariant.2 ∙ after-space _ l.at c.before.before.before.loop-test.true l.value (sym c.before.is-space.ensures ∙ c.if1.true);
+      reads = λ _. l.invariant.2 ∙ after-space _ l.at c.loop-at-test.true l.value (sym c.is_space.ensures ∙ c.if-is_space.true);
       leaves = λ e. absurd (true≢false e);
     }
 
-left : tie.Need-returns-2 Inv μ
+left : tie.Need-returns-then-not-goes_on Inv μ
 left c =
     let b = c.before.before.before in
-    let l = b.before.before.before.loop in
+    let l = b.loop-at in
     record {
       onward = λ e. absurd (false≢true e);
       within = λ e. absurd (false≢true e);
       reads = λ e. absurd (false≢true e);
       leaves =
-          λ _. l.invariant.2 ∙ after-stops _ l.at b.before.before.loop-test.true l.value (sym b.is-space.ensures ∙ c.before.before.if1.false)
-          (sym c.before.goes_on.ensures ∙ not-true _ c.if2.true);
+          λ _. l.invariant.2 ∙ after-stops _ l.at b.loop-at-test.true l.value (sym b.is_space.ensures ∙ c.if-is_space.false)
+          (sym c.goes_on.ensures ∙ not-true _ c.if-not-goes_on.true-raw);
     }
 
-goes : tie.Need-longer-requires Inv μ
-goes c κs = sym c.before.goes_on.ensures ∙ not-false _ c.if2.false
+goes : tie.Need-longer-value-requires Inv μ
+goes c κs = sym c.goes_on.ensures ∙ not-false _ c.if-not-goes_on.false-raw
 
-again : tie.Need-loop-preserved Inv μ
+again : tie.Need-loop-at-preserved Inv μ
 again c =
     let d = c.before in
     let b = d.before.before.before in
-    let l = b.before.before.before.loop in (
+    let l = b.loop-at in (
       omega arith,
       omega arith,
       l.invariant.2
-          ∙ rw c.longer.ensures
-          (after_more _ l.at b.before.before.loop-test.true l.value (sym b.is-space.ensures ∙ d.before.before.if1.false)
-          (sym d.before.goes_on.ensures ∙ not-false _ d.if2.false)),
+          ∙ rw c.longer-value.ensures
+          (after_more _ l.at b.loop-at-test.true l.value (sym b.is_space.ensures ∙ d.if-is_space.false)
+          (sym d.goes_on.ensures ∙ not-false _ d.if-not-goes_on.false-raw)),
     )
 
-done : tie.Need-returns-3 Inv μ
+done : tie.Need-returns Inv μ
 done c =
-    let l = c.before.loop in
+    let l = c.loop-at in
     record {
       onward = λ _. l.invariant.0;
       within = λ _. l.invariant.1;
-      reads = λ _. l.invariant.2 ∙ after-end _ l.at c.loop-test.false l.value;
+      reads = λ _. l.invariant.2 ∙ after-end _ l.at c.loop-at-test.false l.value;
       leaves = λ e. absurd (true≢false e);
     }
 
-pub digits-at-spec : {M : Type 1} → statement M
-digits-at-spec =
+pub digits_at_spec : {M : Type 1} → statement M
+digits_at_spec =
     tie.close
     (tie.spec
     Inv

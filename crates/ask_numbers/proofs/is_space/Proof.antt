@@ -3,11 +3,11 @@ use Rattle.ask_numbers.proofs.Bytes.{space-tab, space-line-feed, space-return, s
 use Rattle.ask_numbers.proofs.is_space.Statement.{statement}
 use Rattle.ask_numbers.proofs.is_space.Tie as tie
 
-pub is-space-spec : {M : Type 1} → statement M
-is-space-spec =
+pub is_space_spec : {M : Type 1} → statement M
+is_space_spec =
     tie.close
     (tie.spec
-    (λ c. space-tab _ c.if1.true)
-    (λ c. space-line-feed _ c.before.if1.false c.if2.true)
-    (λ c. space-return _ c.before.before.if1.false c.before.if2.false c.if3.true)
-    (λ c. space-last _ c.before.before.if1.false c.before.if2.false c.if3.false))
+    (λ c. space-tab _ c.if-b-eq9.true)
+    (λ c. space-line-feed _ c.if-b-eq9.false c.if-b-eq10.true)
+    (λ c. space-return _ c.if-b-eq9.false c.if-b-eq10.false c.if-b-eq13.true)
+    (λ c. space-last _ c.if-b-eq9.false c.if-b-eq10.false c.if-b-eq13.false))

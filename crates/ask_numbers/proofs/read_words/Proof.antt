@@ -11,51 +11,51 @@ use Rattle.ask_numbers.proofs.Reading.{SoFar, none_yet, so-far-ends, so-far-leav
 use Rattle.ask_numbers.proofs.read_words.Statement.{statement}
 use Rattle.ask_numbers.proofs.read_words.Tie as tie
 
-abbrev Inv : tie.invariant-loop
+abbrev Inv : tie.invariant-loop-at
 Inv text words₀ at₀ count₀ words at count = SoFar text words₀ words at count
 
-abbrev μ : tie.decreases-loop
+abbrev μ : tie.decreases-loop-at
 μ text words₀ at₀ count₀ words at count = length text - at
 
-starts : tie.Need-number-at-requires Inv μ
-starts c κs = (c.if1.false, c.before.skip.ensures.stops c.if1.false)
+starts : tie.Need-number_at-number-requires Inv μ
+starts c κs = (c.if-text-start.false, c.skip-start.ensures.stops c.if-text-start.false)
 
-less : tie.Need-loop-smaller Inv μ
+less : tie.Need-loop-at-smaller Inv μ
 less c =
     let d = c.before.before.before in
-    let i = not-false _ c.before.if2.false in
-    omega (arith, d.number_at.ensures.onward i, d.number_at.ensures.within i, d.before.before.skip.ensures.onward)
+    let i = not-false _ c.if-not-number.false in
+    omega (arith, d.number_at-number.ensures.onward i, d.number_at-number.ensures.within i, d.skip-start.ensures.onward)
 
-all : tie.Need-returns Inv μ
-all c = so-far-ends c.before.before.before.loop.invariant (c.before.skip.ensures.same ∙ said-end _ _ c.if1.true)
+all : tie.Need-returns-then-text-start Inv μ
+all c = so-far-ends c.loop-at.invariant (c.skip-start.ensures.same ∙ said-end _ _ c.if-text-start.true)
 
-leaves : tie.Need-returns-2 Inv μ
+leaves : tie.Need-returns-then-not-number Inv μ
 leaves c =
     let d = c.before.before in
     let b = d.before.before in
-    so-far-leaves b.before.before.loop.invariant (b.skip.ensures.same ∙ d.number_at.ensures.leaves (not-true _ c.if2.true))
+    so-far-leaves b.loop-at.invariant (b.skip-start.ensures.same ∙ d.number_at-number.ensures.leaves (not-true _ c.if-not-number.true))
 
-full : tie.Need-returns-3 Inv μ
+full : tie.Need-returns-then-words-count Inv μ
 full c =
     let d = c.before.before.before in
     let b = d.before.before in
-    let l = b.before.before.loop in
-    so-far-full l.invariant _ _ (omega (arith, l.invariant.as_long, c.if3.true))
-    (b.skip.ensures.same ∙ d.number_at.ensures.reads (not-false _ c.before.if2.false))
+    let l = b.loop-at in
+    so-far-full l.invariant _ _ (omega (arith, l.invariant.as_long, c.if-words-count.true))
+    (b.skip-start.ensures.same ∙ d.number_at-number.ensures.reads (not-false _ c.if-not-number.false))
 
-again : tie.Need-loop-preserved Inv μ
+again : tie.Need-loop-at-preserved Inv μ
 again c =
     let d = c.before.before.before in
     let b = d.before.before in
-    let i = not-false _ c.before.if2.false in
-    so_far_more b.before.before.loop.invariant _ _ c.if3.false (d.number_at.ensures.within i)
-    (b.skip.ensures.same ∙ d.number_at.ensures.reads i)
+    let i = not-false _ c.if-not-number.false in
+    so_far_more b.loop-at.invariant _ _ c.if-words-count.false (d.number_at-number.ensures.within i)
+    (b.skip-start.ensures.same ∙ d.number_at-number.ensures.reads i)
 
-done : tie.Need-returns-4 Inv μ
-done c = so-far-ends c.before.loop.invariant (said-end _ _ c.loop-test.false)
+done : tie.Need-returns Inv μ
+done c = so-far-ends c.loop-at.invariant (said-end _ _ c.loop-at-test.false)
 
-pub read-words-spec : {M : Type 1} → statement M
-read-words-spec =
+pub read_words_spec : {M : Type 1} → statement M
+read_words_spec =
     tie.close
     (tie.spec
     Inv

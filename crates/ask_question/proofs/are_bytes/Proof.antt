@@ -9,24 +9,24 @@ use borrow.Author.Rules.{rules}
 use Rattle.ask_question.proofs.are_bytes.Statement.{statement}
 use Rattle.ask_question.proofs.are_bytes.Tie as tie
 
-abbrev Inv : tie.invariant-loop
+abbrev Inv : tie.invariant-loop-i
 Inv words i₀ i = (i ≤ length words) × (are_bytes words ≡ are_bytes (drop i words))
 
-abbrev μ : tie.decreases-loop
+abbrev μ : tie.decreases-loop-i
 μ words i₀ i = length words - i
 
-no : tie.Need-returns Inv μ
+no : tie.Need-returns-then-words-i-gt-LAST_BYTE Inv μ
 no c =
     let t = c.before.before in
-    sym (t.before.loop.invariant.1 ∙ bytes-no _ _ t.loop-test.true c.if1.true)
+    sym (t.loop-i.invariant.1 ∙ bytes-no _ _ t.loop-i-test.true c.if-words-i-gt-LAST_BYTE.true)
 
-again : tie.Need-loop-preserved Inv μ
+again : tie.Need-loop-i-preserved Inv μ
 again c =
     let t = c.before.before in
-    (omega arith, t.before.loop.invariant.1 ∙ bytes_on _ _ t.loop-test.true c.if1.false)
+    (omega arith, t.loop-i.invariant.1 ∙ bytes_on _ _ t.loop-i-test.true c.if-words-i-gt-LAST_BYTE.false)
 
-pub are-bytes-spec : {M : Type 1} → statement M
-are-bytes-spec =
+pub are_bytes_spec : {M : Type 1} → statement M
+are_bytes_spec =
     tie.close
     (tie.spec
     Inv
@@ -38,4 +38,4 @@ are-bytes-spec =
     (λ c. search rules)
     (λ c. search rules)
     again
-    (λ c. bytes-end _ _ c.loop-test.false ∙ sym c.before.loop.invariant.1))
+    (λ c. bytes-end _ _ c.loop-i-test.false ∙ sym c.loop-i.invariant.1))

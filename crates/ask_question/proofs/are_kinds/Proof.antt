@@ -9,27 +9,27 @@ use borrow.Author.Rules.{rules}
 use Rattle.ask_question.proofs.are_kinds.Statement.{statement}
 use Rattle.ask_question.proofs.are_kinds.Tie as tie
 
-abbrev Inv : tie.invariant-loop
+abbrev Inv : tie.invariant-loop-i
 Inv words i₀ i = (i ≤ length words) × (are_kinds words ≡ are_kinds (drop i words))
 
-abbrev μ : tie.decreases-loop
+abbrev μ : tie.decreases-loop-i
 μ words i₀ i = length words - i
 
-no : tie.Need-returns Inv μ
+no : tie.Need-returns-then-words-i-gt-CONSTANT Inv μ
 no c =
     let t = c.before.before in
-    sym (t.before.loop.invariant.1 ∙ kinds-no t.before.before.args.words.now t.before.loop.i t.loop-test.true c.if1.true)
+    sym (t.loop-i.invariant.1 ∙ kinds-no t.args.words.now t.loop-i.i t.loop-i-test.true c.if-words-i-gt-CONSTANT.true)
 
-again : tie.Need-loop-preserved Inv μ
+again : tie.Need-loop-i-preserved Inv μ
 again c =
     let t = c.before.before in
-    (omega arith, t.before.loop.invariant.1 ∙ kinds-on t.before.before.args.words.now t.before.loop.i t.loop-test.true c.if1.false)
+    (omega arith, t.loop-i.invariant.1 ∙ kinds-on t.args.words.now t.loop-i.i t.loop-i-test.true c.if-words-i-gt-CONSTANT.false)
 
-done : tie.Need-returns-2 Inv μ
-done c = kinds-end c.before.before.args.words.now c.before.loop.i c.loop-test.false ∙ sym c.before.loop.invariant.1
+done : tie.Need-returns Inv μ
+done c = kinds-end c.args.words.now c.loop-i.i c.loop-i-test.false ∙ sym c.loop-i.invariant.1
 
-pub are-kinds-spec : {M : Type 1} → statement M
-are-kinds-spec =
+pub are_kinds_spec : {M : Type 1} → statement M
+are_kinds_spec =
     tie.close
     (tie.spec
     Inv

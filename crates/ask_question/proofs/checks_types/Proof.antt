@@ -8,5 +8,5 @@ returns : tie.Need-returns
 unfolding checks_types
 returns c = refl
 
-pub checks-types-spec : {M : Type 1} → statement M
-checks-types-spec = tie.close (tie.spec returns)
+pub checks_types_spec : {M : Type 1} → statement M
+checks_types_spec = tie.close (tie.spec returns)

@@ -4,8 +4,8 @@ use borrow.Author.Rules.{rules}
 use Rattle.ask_question.proofs.find_parts.Statement.{statement}
 use Rattle.ask_question.proofs.find_parts.Tie as tie
 
-pub find-parts-spec : {M : Type 1} → statement M
-find-parts-spec =
+pub find_parts_spec : {M : Type 1} → statement M
+find_parts_spec =
     tie.close
     (tie.spec
     (λ c κs. search rules)
@@ -23,6 +23,6 @@ find-parts-spec =
     let d = y.before in
     let b = d.before in
     let a = b.before in
-    let z = a.before in
-    parts_are _ _ _ _ _ _ _ _ _ z.part_at.ensures a.part-at2.ensures b.part-at3.ensures d.part-at4.ensures y.types-at.ensures e.part-at5.ensures
-    f.part-at6.ensures c.part-at7.ensures))
+    let z = a in
+    parts_are _ _ _ _ _ _ _ _ _ z.part_at-statements.ensures a.part_at-selects.ensures b.part_at-names.ensures d.part_at-ends.ensures y.types_at-types.ensures e.part_at-aevt.ensures
+    f.part_at-avet.ensures c.part_at-eavt.ensures))

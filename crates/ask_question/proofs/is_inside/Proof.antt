@@ -6,43 +6,43 @@ use borrow.Author.Rules.{rules}
 use Rattle.ask_question.proofs.is_inside.Statement.{statement}
 use Rattle.ask_question.proofs.is_inside.Tie as tie
 
-parts : tie.Need-returns
-parts c = outside-parts _ _ (not-true _ c.if1.true)
+parts : tie.Need-returns-then-not-last
+parts c = outside-parts _ _ (not-true _ c.if-not-last.true)
 
-more : tie.Need-returns-2
+more : tie.Need-returns-then-last-words
 more c =
-    let e = c.before.before in
-    outside-more _ _ (not-false _ e.if1.false) c.if2.true
+    let e = c in
+    outside-more _ _ (not-false _ e.if-not-last.false) c.if-last-words.true
 
-task : tie.Need-returns-3
+task : tie.Need-returns-then-word_at-gt-TYPED_SEARCH
 task c =
     let d = c.before.before in
-    let e = d.before.before in
-    outside-task _ _ (not-false _ e.if1.false) d.if2.false (rw c.before.word_at.ensures at c.if3.true)
+    let e = d in
+    outside-task _ _ (not-false _ e.if-not-last.false) d.if-last-words.false (rw c.word_at.ensures at c.if-word_at-gt-TYPED_SEARCH.true)
 
-kinds : tie.Need-returns-4
+kinds : tie.Need-returns-then-not-are_kinds
 kinds c =
     let k = c.before in
     let b = k.before.before in
     let d = b.before.before in
-    let e = d.before.before in
-    outside-kinds _ _ (not-false _ e.if1.false) d.if2.false (rw b.before.word_at.ensures at b.if3.false)
-    (rw k.before.items.ensures at (sym k.are-kinds.ensures ∙ not-true _ c.if4.true))
+    let e = d in
+    outside-kinds _ _ (not-false _ e.if-not-last.false) d.if-last-words.false (rw b.word_at.ensures at b.if-word_at-gt-TYPED_SEARCH.false)
+    (rw k.items.ensures at (sym k.are_kinds.ensures ∙ not-true _ c.if-not-are_kinds.true-raw))
 
-bytes : tie.Need-returns-5
+bytes : tie.Need-returns
 bytes c =
     let g = c.before.before in
     let k = g.before in
     let b = k.before.before in
     let d = b.before.before in
-    let e = d.before.before in
-    c.are-bytes.ensures
-    ∙ rw c.before.items2.ensures
-    (inside-bytes _ _ (not-false _ e.if1.false) d.if2.false (rw b.before.word_at.ensures at b.if3.false)
-    (rw k.before.items.ensures at (sym k.are-kinds.ensures ∙ not-false _ g.if4.false)))
+    let e = d in
+    c.are_bytes.ensures
+    ∙ rw c.items-2.ensures
+    (inside-bytes _ _ (not-false _ e.if-not-last.false) d.if-last-words.false (rw b.word_at.ensures at b.if-word_at-gt-TYPED_SEARCH.false)
+    (rw k.items.ensures at (sym k.are_kinds.ensures ∙ not-false _ g.if-not-are_kinds.false-raw)))
 
-pub is-inside-spec : {M : Type 1} → statement M
-is-inside-spec =
+pub is_inside_spec : {M : Type 1} → statement M
+is_inside_spec =
     tie.close
     (tie.spec
     parts

@@ -9,10 +9,10 @@ query c =
     let t = c.before in
     let s = t.before.before in
     query-is _ _ _ _ _ c.word_at.ensures
-    (rw s.before.items.ensures at s.read-statements.ensures) (rw t.before.items2.ensures at t.read-selects.ensures)
+    (rw s.items.ensures at s.read_statements-where_statements.ensures) (rw t.items-2.ensures at t.read_selects-select.ensures)
 
-pub read-query-spec : {M : Type 1} → statement M
-read-query-spec =
+pub read_query_spec : {M : Type 1} → statement M
+read_query_spec =
     tie.close
     (tie.spec
     (λ c κs. search rules)

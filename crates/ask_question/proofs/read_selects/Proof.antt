@@ -14,30 +14,30 @@ use borrow.Author.Rules.{rules}
 use Rattle.ask_question.proofs.read_selects.Statement.{statement}
 use Rattle.ask_question.proofs.read_selects.Tie as tie
 
-abbrev Inv : tie.invariant-loop
+abbrev Inv : tie.invariant-loop-i
 Inv words count items₀ i₀ items i = (i ≤ max_selects) × (i ≤ count) × (items ≡ padded zero_var max_selects (tabled (λ j. asked_var (get_or words j 0)) i))
 
-abbrev μ : tie.decreases-loop
+abbrev μ : tie.decreases-loop-i
 μ words count items₀ i₀ items i = max_selects - i
 
-full : tie.Need-returns Inv μ
-full c = selects_are _ _ _ _ c.before.before.loop.invariant.2 (omega (arith, c.before.before.loop.invariant.0, c.before.before.loop.invariant.1, c.if1.true))
+full : tie.Need-returns-then-count-i Inv μ
+full c = selects_are _ _ _ _ c.loop-i.invariant.2 (omega (arith, c.loop-i.invariant.0, c.loop-i.invariant.1, c.if-count-i.true))
 
-again : tie.Need-loop-preserved Inv μ
+again : tie.Need-loop-i-preserved Inv μ
 again c =
     let w = c.before in
     let t = w.before.before in
-    let l = t.before.loop in (
-      omega (arith, t.loop-test.true),
-      omega (arith, w.before.if1.false),
-      tabled-padded-more _ zero_var max_selects l.i _ _ t.loop-test.true l.invariant.2 (rw w.word_at.ensures at c.variable.ensures),
+    let l = t.loop-i in (
+      omega (arith, t.loop-i-test.true),
+      omega (arith, w.if-count-i.false),
+      tabled-padded-more _ zero_var max_selects l.i _ _ t.loop-i-test.true l.invariant.2 (rw w.word_at.ensures at c.variable.ensures),
     )
 
-done : tie.Need-returns-2 Inv μ
-done c = selects_are _ _ _ _ c.before.loop.invariant.2 (omega (arith, c.before.loop.invariant.0, c.before.loop.invariant.1, c.loop-test.false))
+done : tie.Need-returns Inv μ
+done c = selects_are _ _ _ _ c.loop-i.invariant.2 (omega (arith, c.loop-i.invariant.0, c.loop-i.invariant.1, c.loop-i-test.false))
 
-pub read-selects-spec : {M : Type 1} → statement M
-read-selects-spec =
+pub read_selects_spec : {M : Type 1} → statement M
+read_selects_spec =
     tie.close
     (tie.spec
     Inv

@@ -13,29 +13,29 @@ use borrow.Author.Rules.{rules}
 use Rattle.ask_question.proofs.read_statements.Statement.{statement}
 use Rattle.ask_question.proofs.read_statements.Tie as tie
 
-abbrev Inv : tie.invariant-loop
+abbrev Inv : tie.invariant-loop-i
 Inv words count items₀ i₀ items i = (i ≤ max_statements) × (i ≤ count) × (items ≡ padded zero_statement max_statements (tabled (asked_statement words) i))
 
-abbrev μ : tie.decreases-loop
+abbrev μ : tie.decreases-loop-i
 μ words count items₀ i₀ items i = max_statements - i
 
-full : tie.Need-returns Inv μ
-full c = statements-are _ _ _ _ c.before.before.loop.invariant.2 (omega (arith, c.before.before.loop.invariant.0, c.before.before.loop.invariant.1, c.if1.true))
+full : tie.Need-returns-then-count-i Inv μ
+full c = statements-are _ _ _ _ c.loop-i.invariant.2 (omega (arith, c.loop-i.invariant.0, c.loop-i.invariant.1, c.if-count-i.true))
 
-again : tie.Need-loop-preserved Inv μ
+again : tie.Need-loop-i-preserved Inv μ
 again c =
     let t = c.before.before in
-    let l = t.before.loop in (
-      omega (arith, t.loop-test.true),
-      omega (arith, c.before.if1.false),
-      tabled-padded-more _ zero_statement max_statements l.i _ _ t.loop-test.true l.invariant.2 c.statement-at.ensures,
+    let l = t.loop-i in (
+      omega (arith, t.loop-i-test.true),
+      omega (arith, c.if-count-i.false),
+      tabled-padded-more _ zero_statement max_statements l.i _ _ t.loop-i-test.true l.invariant.2 c.statement_at.ensures,
     )
 
-done : tie.Need-returns-2 Inv μ
-done c = statements-are _ _ _ _ c.before.loop.invariant.2 (omega (arith, c.before.loop.invariant.0, c.before.loop.invariant.1, c.loop-test.false))
+done : tie.Need-returns Inv μ
+done c = statements-are _ _ _ _ c.loop-i.invariant.2 (omega (arith, c.loop-i.invariant.0, c.loop-i.invariant.1, c.loop-i-test.false))
 
-pub read-statements-spec : {M : Type 1} → statement M
-read-statements-spec =
+pub read_statements_spec : {M : Type 1} → statement M
+read_statements_spec =
     tie.close
     (tie.spec
     Inv

@@ -4,8 +4,8 @@ use borrow.Author.Rules.{rules}
 use Rattle.ask_question.proofs.statement_at.Statement.{statement}
 use Rattle.ask_question.proofs.statement_at.Tie as tie
 
-pub statement-at-spec : {M : Type 1} → statement M
-statement-at-spec =
+pub statement_at_spec : {M : Type 1} → statement M
+statement_at_spec =
     tie.close
     (tie.spec
     (λ c. search rules)
@@ -23,6 +23,6 @@ statement-at-spec =
     let k = d.before in
     let a = k.before in
     let v = a.before in
-    let e = v.before in
-    statement-is _ _ _ _ _ _ _ _ e.word_at.ensures a.word-at2.ensures k.word-at3.ensures d.word-at4.ensures v.variable.ensures
-    c.value_of.ensures))
+    let e = v in
+    statement-is _ _ _ _ _ _ _ _ e.word_at.ensures a.word_at-2.ensures k.word_at-3.ensures d.word_at-4.ensures v.variable-entity.ensures
+    c.value_of-value.ensures))

@@ -6,18 +6,18 @@ use borrow.Author.Rules.{rules}
 use Rattle.ask_question.proofs.types_at.Statement.{statement}
 use Rattle.ask_question.proofs.types_at.Tie as tie
 
-left_out : tie.Need-returns
+left_out : tie.Need-returns-then-not-checks_types
 left_out c =
     let asked = c.before.before in
-    c.left_out.ensures ∙ types-left-out _ _ _ asked.before.word_at.ensures (sym asked.checks-types.ensures ∙ not-true _ c.before.if1.true)
+    c.left_out.ensures ∙ types-left-out _ _ _ asked.word_at.ensures (sym asked.checks_types.ensures ∙ not-true _ c.if-not-checks_types.true-raw)
 
-there : tie.Need-returns-2
+there : tie.Need-returns
 there c =
     let asked = c.before.before in
-    c.part_at.ensures ∙ types-there _ _ _ asked.before.word_at.ensures (sym asked.checks-types.ensures ∙ not-false _ c.before.if1.false)
+    c.part_at.ensures ∙ types-there _ _ _ asked.word_at.ensures (sym asked.checks_types.ensures ∙ not-false _ c.if-not-checks_types.false-raw)
 
-pub types-at-spec : {M : Type 1} → statement M
-types-at-spec =
+pub types_at_spec : {M : Type 1} → statement M
+types_at_spec =
     tie.close
     (tie.spec
     (λ c κs. search rules)

@@ -4,11 +4,11 @@ use borrow.Author.Rules.{rules}
 use Rattle.ask_question.proofs.variable.Statement.{statement}
 use Rattle.ask_question.proofs.variable.Tie as tie
 
-pub variable-spec : {M : Type 1} → statement M
-variable-spec =
+pub variable_spec : {M : Type 1} → statement M
+variable_spec =
     tie.close
     (tie.spec
     (λ c. search rules)
-    (λ c. var-past _ c.if1.true)
+    (λ c. var-past _ c.if-number.true)
     (λ c. search rules)
-    (λ c. var-below _ c.if1.false))
+    (λ c. var-below _ c.if-number.false))

@@ -6,17 +6,17 @@ use Rattle.cost.specs.Cost.{cost_of_scans, cost_of}
 use Rattle.cost.proofs.cost.Statement.{statement}
 use Rattle.cost.proofs.cost.Tie as tie
 
-refused : tie.Need-returns
+refused : tie.Need-returns-in-Refused
 unfolding cost_of
 refused c =
-    let counts = sym c.before.before.check-counts.ensures ∙ c.enum_told.given.1 in
-    simp (flows-agree, counts, c.enum_told.given.1)
+    let counts = sym c.check_counts-verdict.ensures ∙ c.in-Refused.is in
+    simp (flows-agree, counts, c.in-Refused.is)
 
-weighs : tie.Need-returns-2
+weighs : tie.Need-returns
 unfolding cost_of cost_of_scans
 weighs c =
-    let counts = sym c.before.before.before.before.check-counts.ensures ∙ c.before.before.enum-told2.given.1 in
-    simp (flows-agree, counts) c.cost-of-scans.ensures
+    let counts = sym c.check_counts-verdict.ensures ∙ c.in_default.is in
+    simp (flows-agree, counts) c.cost_of_scans.ensures
 
-pub cost-spec : {M : Type 1} → statement M
-cost-spec = tie.close (tie.spec (λ c κs. search rules) (λ c. search rules) refused (λ c. search rules) (λ c κs. search rules) weighs)
+pub cost_spec : {M : Type 1} → statement M
+cost_spec = tie.close (tie.spec (λ c κs. search rules) (λ c. search rules) refused (λ c. search rules) (λ c κs. search rules) weighs)

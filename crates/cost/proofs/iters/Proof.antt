@@ -4,8 +4,8 @@ use borrow.Author.Rules.{rules}
 use Rattle.cost.proofs.iters.Statement.{statement}
 use Rattle.cost.proofs.iters.Tie as tie
 
-pub iters-spec : {M : Type 1} → statement M
-iters-spec =
+pub iters_spec : {M : Type 1} → statement M
+iters_spec =
     tie.close
     (tie.spec
     (λ c. search rules)
@@ -14,8 +14,8 @@ iters-spec =
     (λ c. search rules)
     (λ c. search rules)
     (λ c. search rules)
-    (λ c. rw c.enum_told.given.1 refl)
-    (λ c. rw c.enum-told2.given.1 refl)
-    (λ c. rw (c.before.before.enum-told3.given.1, c.enum-told4.given.1) refl)
-    (λ c. rw (c.before.before.enum-told3.given.1, c.enum-told5.given.1) refl)
-    (λ c. rw (c.before.before.enum-told3.given.1, c.enum-told6.given.1) refl))
+    (λ c. rw c.in-OutOut.is refl)
+    (λ c. rw c.in-InIn.is refl)
+    (λ c. rw (c.in-InOut.is, c.in-Aevt.is) refl)
+    (λ c. rw (c.in-InOut.is, c.in-Avet.is) refl)
+    (λ c. rw (c.in-InOut.is, c.in-Eavt.is) refl))

@@ -4,15 +4,15 @@ use borrow.Author.Rules.{rules}
 use Rattle.cost.proofs.same_key.Statement.{statement}
 use Rattle.cost.proofs.same_key.Tie as tie
 
-pub same-key-spec : {M : Type 1} → statement M
-same-key-spec =
+pub same_key_spec : {M : Type 1} → statement M
+same_key_spec =
     tie.close
     (tie.spec
     (λ c κs. search rules)
     (λ c. search rules)
     (λ c. search rules)
     (λ c. search rules)
-    (λ c. simp (sym c.before.before.before.before.before.same_index.ensures ∙ c.before.before.before.before.if1.true) (simp c.before.before.enum_told.given.1))
-    (λ c. simp (sym c.before.before.before.before.before.same_index.ensures ∙ c.before.before.before.before.if1.true) (simp c.before.before.enum-told2.given.1))
-    (λ c. simp (sym c.before.before.before.before.before.same_index.ensures ∙ c.before.before.before.before.if1.true) (simp c.before.before.enum-told3.given.1))
-    (λ c. simp (sym c.before.same_index.ensures ∙ c.if1.false)))
+    (λ c. simp (sym c.same_index.ensures ∙ c.if-same_index.true) (simp c.in-Aevt.is))
+    (λ c. simp (sym c.same_index.ensures ∙ c.if-same_index.true) (simp c.in-Avet.is))
+    (λ c. simp (sym c.same_index.ensures ∙ c.if-same_index.true) (simp c.in-Eavt.is))
+    (λ c. simp (sym c.same_index.ensures ∙ c.if-same_index.false)))

@@ -6,7 +6,7 @@ use Rattle.cost.proofs.with_earlier.Tie as tie
 returns : tie.Need-returns
 returns c =
     let k = c.before.before in
-    rw (k.either.ensures, k.before.same_key.ensures, c.either2.ensures, c.before.same_index.ensures)
+    rw (k.either-is_key.ensures, k.same_key.ensures, c.either-is_index.ensures, c.same_index.ensures)
 
-pub with-earlier-spec : {M : Type 1} → statement M
-with-earlier-spec = tie.close (tie.spec (λ c κs. search rules) (λ c κs. search rules) (λ c κs. search rules) (λ c κs. search rules) returns)
+pub with_earlier_spec : {M : Type 1} → statement M
+with_earlier_spec = tie.close (tie.spec (λ c κs. search rules) (λ c κs. search rules) (λ c κs. search rules) (λ c κs. search rules) returns)

@@ -4,8 +4,8 @@ use borrow.Author.Rules.{rules}
 use Rattle.plan_check.proofs.check_access.Statement.{statement}
 use Rattle.plan_check.proofs.check_access.Tie as tie
 
-pub check-access-spec : {M : Type 1} → statement M
-check-access-spec =
+pub check_access_spec : {M : Type 1} → statement M
+check_access_spec =
     tie.close
     (tie.spec
     (λ c. search rules)
@@ -17,6 +17,6 @@ check-access-spec =
     (λ c κs. search rules)
     (λ c. search rules)
     (λ c. search rules)
-    (λ c. c.refuse.ensures ∙ simp (c.before.before.before.enum_told.given.1, c.before.enum-told3.given.1))
-    (λ c. c.refuse2.ensures ∙ simp (c.before.before.before.enum-told4.given.1, c.before.enum-told5.given.1))
+    (λ c. c.refuse.ensures ∙ simp (c.in-Writes.is, c.in-Set.is))
+    (λ c. c.refuse-in-Unset-init.ensures ∙ simp (c.in-Reads.is, c.in-Unset-init.is))
     (λ c. search rules))

@@ -14,32 +14,31 @@ use Rattle.plan_check.specs.Record.{is_set_state}
 use Rattle.plan_check.proofs.check_all_set.Statement.{statement}
 use Rattle.plan_check.proofs.check_all_set.Tie as tie
 
-abbrev Inv : tie.invariant-loop
+abbrev Inv : tie.invariant-loop-i_slot
 Inv n rec i₀ i = Walked (λ j (s : Initialization). refuse_if (not (is_set_state s)) 25 j) rec n 0 i i
 
-abbrev μ : tie.decreases-loop
+abbrev μ : tie.decreases-loop-i_slot
 μ n rec i₀ i = n - i
 
-found : tie.Need-returns Inv μ
+found : tie.Need-returns-in-Unset Inv μ
 unfolding refuse_first
 found c =
-    let w = c.before.before.before.before in
-    c.refuse.ensures ∙ sym (walked-found w.before.loop.invariant Unset w.loop-test.true (rw c.before.enum_told.given.1 refl))
+    c.refuse.ensures ∙ sym (walked-found c.loop-i_slot.invariant Unset c.loop-i_slot-test.true (rw c.in-Unset.is refl))
 
-again : tie.Need-loop-preserved Inv μ
-again c = let w = c.before.before.before in walked_on w.before.loop.invariant Unset w.loop-test.true (rw c.enum-told2.given.1 refl)
+again : tie.Need-loop-i_slot-preserved Inv μ
+again c = walked_on c.loop-i_slot.invariant Unset c.loop-i_slot-test.true (rw c.in_default.is refl)
 
-done : tie.Need-returns-2 Inv μ
+done : tie.Need-returns Inv μ
 unfolding refuse_first
-done c = sym (walked-done c.before.loop.invariant c.loop-test.false)
+done c = sym (walked-done c.loop-i_slot.invariant c.loop-i_slot-test.false)
 
-pub check-all-set-spec : {M : Type 1} → statement M
-check-all-set-spec =
+pub check_all_set_spec : {M : Type 1} → statement M
+check_all_set_spec =
     tie.close
     (tie.spec
     Inv
     μ
-    (λ c. let h : length c.args.t2 ≡ max_slots = search rules in record { within = omega arith; fits = omega arith; rest = refl })
+    (λ c. let h : length c.args.initialization ≡ max_slots = search rules in record { within = omega arith; fits = omega arith; rest = refl })
     (λ c. search rules)
     (λ c. search rules)
     (λ c κs. search rules)

@@ -11,33 +11,32 @@ use Rattle.plan_check.proofs.check_invariants.Statement.{statement}
 use Rattle.plan_check.proofs.check_invariants.Tie as tie
 
 -- past the first test the counts are fine
-counts : (c : tie.After-enum-told2) →
-    let p = c.before.before.before.args.plan in counts_fault p.scan_count p.slot_count p.select_count ≡ Fine
-counts c = sym c.before.before.check-counts.ensures ∙ c.enum-told2.given.1
+counts : (c : tie.In_default) →
+    let p = c.args.plan in counts_fault p.scan_count p.slot_count p.select_count ≡ Fine
+counts c = sym c.check_counts-counts.ensures ∙ c.in_default.is
 
-counted : (c : tie.After-enum-told2) →
-    let p = c.before.before.before.args.plan in Counted p.scan_count p.slot_count p.select_count
+counted : (c : tie.In_default) →
+    let p = c.args.plan in Counted p.scan_count p.slot_count p.select_count
 counted c = counts-fine _ _ _ (counts c)
 
 -- past the scans, what is left is the selects' answer
-past : (c : tie.After-check-slot-initialization) →
-    let p = c.before.before.before.before.before.before.before.before.args.plan in
-    check_of p ≡ or_else c.check-slot-initialization.result (selects_fault (slots_of p) (slots_selected p) 0)
+past : (c : tie.After-check_slot_initialization-initialization) →
+    let p = c.args.plan in
+    check_of p ≡ or_else c.check_slot_initialization-initialization.result (selects_fault (slots_of p) (slots_selected p) 0)
 unfolding check_of
 past c =
-    let b = c.before.before.before.before in
-    simp (counts b.before, ne_eqb _ _ b.if1.false, ← c.check-slot-initialization.ensures)
+    simp (counts c.before.before.before.before.before, ne_eqb _ _ c.if-select_count-eq0.false, ← c.check_slot_initialization-initialization.ensures)
 
-over : tie.Need-returns
+over : tie.Need-returns-in-Refused
 unfolding check_of
-over c = c.enum_told.given.1 ∙ simp (sym c.before.before.check-counts.ensures ∙ c.enum_told.given.1)
+over c = c.in-Refused.is ∙ simp (sym c.check_counts-counts.ensures ∙ c.in-Refused.is)
 
-none : tie.Need-returns-2
+none : tie.Need-returns-then-select_count-eq0
 unfolding check_of
-none c = c.refuse.ensures ∙ simp (counts c.before.before, eq-eqb _ _ c.before.if1.true)
+none c = c.refuse.ensures ∙ simp (counts c.before.before, eq-eqb _ _ c.if-select_count-eq0.true)
 
-pub check-invariants-spec : {M : Type 1} → statement M
-check-invariants-spec =
+pub check_invariants_spec : {M : Type 1} → statement M
+check_invariants_spec =
     tie.close
     (tie.spec
     (λ c κs. search rules)
@@ -48,7 +47,7 @@ check-invariants-spec =
     none
     (λ c κs. let w = counted c.before.before.before.before in (w.few_slots, w.few_scans))
     (λ c. search rules)
-    (λ c. c.enum-told3.given.1 ∙ sym (simp c.enum-told3.given.1 at (past c.before.before)))
+    (λ c. c.in-Refused-initialization.is ∙ sym (simp c.in-Refused-initialization.is at (past c.before)))
     (λ c. search rules)
-    (λ c κs. let w = counted c.before.before.before.before.before.before.before in (w.few_selects, w.few_slots))
-    (λ c. c.check-selects.ensures ∙ sym (simp c.before.enum-told4.given.1 at (past c.before.before.before))))
+    (λ c κs. let w = counted c.before.before.before.before.before.before in (w.few_selects, w.few_slots))
+    (λ c. c.check_selects.ensures ∙ sym (simp c.in_default-initialization.is at (past c.before.before))))

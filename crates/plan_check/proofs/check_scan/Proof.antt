@@ -8,38 +8,34 @@ use Rattle.plan_check.proofs.check_scan.Statement.{statement}
 use Rattle.plan_check.proofs.check_scan.Tie as tie
 
 -- past the first test the scan is not out-out over eavt
-other : (c : tie.Else1) → let s = c.before.before.args.scan in out_out_eavt s.flow s.index ≡ false
-other c = sym c.before.is-out-out-eavt.ensures ∙ c.if1.false
+other : (c : tie.Else-is_out_out_eavt) → let s = c.args.scan in out_out_eavt s.flow s.index ≡ false
+other c = sym c.is_out_out_eavt.ensures ∙ c.if-is_out_out_eavt.false
 
 -- the first slot's answer
-first : (c : tie.After-check-slot) →
-    let a = c.before.before.before.before.before.before.before.args in
-    slot_fault_in a.slot-count a.initialization (first_access a.scan.flow) (first_slot a.scan) a.i-scan ≡ c.check-slot.result
-first c = simp (c.check-slot.ensures, c.before.first-access.ensures, c.before.before.before.before.slots.ensures)
+first : (c : tie.After-check_slot-fault) →
+    let a = c.args in
+    slot_fault_in a.slot_count a.initialization (first_access a.scan.flow) (first_slot a.scan) a.i_scan ≡ c.check_slot-fault.result
+first c = simp (c.check_slot-fault.ensures, c.first_access-access.ensures, c.slots-slots.ensures)
 
-out-out : tie.Need-returns
+out-out : tie.Need-returns-then-is_out_out_eavt
 unfolding scan_fault_in
-out-out c = c.refuse.ensures ∙ simp (sym c.before.before.is-out-out-eavt.ensures ∙ c.before.if1.true)
+out-out c = c.refuse.ensures ∙ simp (sym c.is_out_out_eavt.ensures ∙ c.if-is_out_out_eavt.true)
 
-first-refused : tie.Need-returns-2
+first-refused : tie.Need-returns-in-Refused
 unfolding scan_fault_in
 first-refused c =
-    let b = c.before.before in
-    c.enum_told.given.1 ∙ simp (other b.before.before.before.before.before, first b ∙ c.enum_told.given.1)
+    c.in-Refused.is ∙ simp (other c.before.before.before.before.before.before, first c.before ∙ c.in-Refused.is)
 
-second : tie.Need-returns-3
+second : tie.Need-returns
 unfolding scan_fault_in
 second c =
-    let d = c.before.before.before in
-    let b = d.before.before in
-    let f = b.before in
-    let slots = f.before.before.before.slots.ensures in
-    let next = c.before.before.record-slot.ensures in
-    simp (other f.before.before.before.before, first b ∙ d.enum-told2.given.1)
-    (simp (c.check-slot2.ensures, c.before.second-access.ensures, next, f.first-access.ensures, slots))
+    let slots = c.slots-slots.ensures in
+    let next = c.record_slot-next.ensures in
+    simp (other c.before.before.before.before.before.before.before.before.before, first c.before.before.before.before ∙ c.in_default.is)
+    (simp (c.check_slot.ensures, c.second_access.ensures, next, c.first_access-access.ensures, slots))
 
-pub check-scan-spec : {M : Type 1} → statement M
-check-scan-spec =
+pub check_scan_spec : {M : Type 1} → statement M
+check_scan_spec =
     tie.close
     (tie.spec
     (λ c κs. search rules)

@@ -12,41 +12,38 @@ use Rattle.plan_check.specs.Record.{scans_fault_in}
 use Rattle.plan_check.proofs.check_scans.Statement.{statement}
 use Rattle.plan_check.proofs.check_scans.Tie as tie
 
-abbrev Inv : tie.invariant-loop
+abbrev Inv : tie.invariant-loop-i_scan
 Inv k n scans rec₀ i₀ rec i = (i ≤ k) × (scans_fault_in n rec₀ (take k scans) 0 ≡ scans_fault_in n rec (drop i (take k scans)) i)
 
-abbrev μ : tie.decreases-loop
+abbrev μ : tie.decreases-loop-i_scan
 μ k n scans rec₀ i₀ rec i = k - i
 
-turn : (c : tie.In-loop Inv μ) →
-    let a = c.before.before.args in let i = c.before.loop.i-scan in
-    scans_fault_in a.slot-count a.constants (take a.scan-count a.t1) 0 ≡
-    scans_fault_in a.slot-count c.before.loop.initialization (get_or a.t1 i zero_scan ∷ drop (i + 1) (take a.scan-count a.t1)) i
+turn : (c : tie.In-loop-i_scan Inv μ) →
+    let a = c.args in let i = c.loop-i_scan.i_scan in
+    scans_fault_in a.slot_count a.constants (take a.scan_count a.scans) 0 ≡
+    scans_fault_in a.slot_count c.loop-i_scan.initialization (get_or a.scans i zero_scan ∷ drop (i + 1) (take a.scan_count a.scans)) i
 turn c =
-    let a = c.before.before.args in
-    let h : length a.t1 ≡ max_scans = search rules in
-    rw (walk_step a.t1 a.scan-count (omega arith) zero_scan c.before.loop.i-scan c.loop-test.true) at c.before.loop.invariant.1
+    let a = c.args in
+    let h : length a.scans ≡ max_scans = search rules in
+    rw (walk_step a.scans a.scan_count (omega arith) zero_scan c.loop-i_scan.i_scan c.loop-i_scan-test.true) at c.loop-i_scan.invariant.1
 
-found : tie.Need-returns Inv μ
+found : tie.Need-returns-in-Refused Inv μ
 found c =
-    let b = c.before.before in
-    c.enum_told.given.1 ∙ sym (simp (← b.check-scan.ensures, c.enum_told.given.1) at (turn b.before.before))
+    c.in-Refused.is ∙ sym (simp (← c.check_scan-fault.ensures, c.in-Refused.is) at (turn c.before.before.before))
 
-again : tie.Need-loop-preserved Inv μ
+again : tie.Need-loop-i_scan-preserved Inv μ
 again c =
-    let b = c.before.before.before in
-    (omega arith, simp (← b.check-scan.ensures, c.before.enum-told2.given.1, ← c.record-scan.ensures) at (turn b.before.before))
+    (omega arith, simp (← c.check_scan-fault.ensures, c.in_default.is, ← c.record_scan-next.ensures) at (turn c.before.before.before.before))
 
-done : tie.Need-returns-2 Inv μ
+done : tie.Need-returns Inv μ
 done c =
-    let b = c.before in
-    let a = b.before.before.args in
-    let h : length a.t1 ≡ max_scans = search rules in
-    c.check-all-set.ensures ∙
-    sym (rw (walk_end a.t1 a.scan-count (omega arith) b.before.loop.i-scan b.loop-test.false) at b.before.loop.invariant.1)
+    let a = c.args in
+    let h : length a.scans ≡ max_scans = search rules in
+    c.check_all_set.ensures ∙
+    sym (rw (walk_end a.scans a.scan_count (omega arith) c.loop-i_scan.i_scan c.loop-i_scan-test.false) at c.loop-i_scan.invariant.1)
 
-pub check-scans-spec : {M : Type 1} → statement M
-check-scans-spec =
+pub check_scans_spec : {M : Type 1} → statement M
+check_scans_spec =
     tie.close
     (tie.spec
     Inv

@@ -12,48 +12,43 @@ use Rattle.plan_check.proofs.Selects.{select-past, select-within}
 use Rattle.plan_check.proofs.check_selects.Statement.{statement}
 use Rattle.plan_check.proofs.check_selects.Tie as tie
 
-abbrev Inv : tie.invariant-loop
+abbrev Inv : tie.invariant-loop-i_select
 Inv k n select slots i₀ i = (n ≤ length slots) × Walked (select_fault (take n slots)) select k 0 i i
 
-abbrev μ : tie.decreases-loop
+abbrev μ : tie.decreases-loop-i_select
 μ k n select slots i₀ i = k - i
 
-no_slot : tie.Need-returns Inv μ
+no_slot : tie.Need-returns-then-slot_count-i_slot Inv μ
 unfolding selects_fault
 no_slot c =
-    let w = c.before.before.before.before in
-    let l = w.before.loop.invariant in
-    c.refuse.ensures ∙ sym (walked-found l.1 zero_slot w.loop-test.true (select-past _ _ l.0 _ _ c.before.if1.true))
+    let l = c.loop-i_select.invariant in
+    c.refuse.ensures ∙ sym (walked-found l.1 zero_slot c.loop-i_select-test.true (select-past _ _ l.0 _ _ c.if-slot_count-i_slot.true))
 
-constant : tie.Need-returns-2 Inv μ
+constant : tie.Need-returns-then-is_constant Inv μ
 unfolding selects_fault
 constant c =
-    let d = c.before.before.before.before in
-    let w = d.before.before.before in
-    let l = w.before.loop.invariant in
-    c.refuse2.ensures
-    ∙ sym (walked-found l.1 zero_slot w.loop-test.true (select-within _ _ l.0 _ _ d.if1.false ∙ rw (sym c.before.before.is-constant.ensures ∙ c.before.if2.true) refl))
+    let l = c.loop-i_select.invariant in
+    c.refuse-then-is_constant.ensures
+    ∙ sym (walked-found l.1 zero_slot c.loop-i_select-test.true (select-within _ _ l.0 _ _ c.if-slot_count-i_slot.false ∙ rw (sym c.is_constant.ensures ∙ c.if-is_constant.true) refl))
 
-again : tie.Need-loop-preserved Inv μ
+again : tie.Need-loop-i_select-preserved Inv μ
 again c =
-    let d = c.before.before.before in
-    let w = d.before.before.before in
-    let l = w.before.loop.invariant in
-    (l.0, walked_on l.1 zero_slot w.loop-test.true (select-within _ _ l.0 _ _ d.if1.false ∙ rw (sym c.before.is-constant.ensures ∙ c.if2.false) refl))
+    let l = c.loop-i_select.invariant in
+    (l.0, walked_on l.1 zero_slot c.loop-i_select-test.true (select-within _ _ l.0 _ _ c.if-slot_count-i_slot.false ∙ rw (sym c.is_constant.ensures ∙ c.if-is_constant.false) refl))
 
-done : tie.Need-returns-3 Inv μ
+done : tie.Need-returns Inv μ
 unfolding selects_fault
-done c = sym (walked-done c.before.loop.invariant.1 c.loop-test.false)
+done c = sym (walked-done c.loop-i_select.invariant.1 c.loop-i_select-test.false)
 
-pub check-selects-spec : {M : Type 1} → statement M
-check-selects-spec =
+pub check_selects_spec : {M : Type 1} → statement M
+check_selects_spec =
     tie.close
     (tie.spec
     Inv
     μ
     (λ c.
-    let h : length c.args.t1 ≡ max_selects = search rules in
-    let g : length c.args.t3 ≡ max_slots = search rules in
+    let h : length c.args.select ≡ max_selects = search rules in
+    let g : length c.args.slots ≡ max_slots = search rules in
     (omega arith, record { within = omega arith; fits = omega arith; rest = refl }))
     (λ c. search rules)
     (λ c. search rules)

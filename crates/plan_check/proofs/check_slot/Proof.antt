@@ -6,14 +6,14 @@ use Rattle.plan_check.specs.Record.{slot_fault_in}
 use Rattle.plan_check.proofs.check_slot.Statement.{statement}
 use Rattle.plan_check.proofs.check_slot.Tie as tie
 
-named : tie.Need-returns
+named : tie.Need-returns-then-i_slot-slot_count
 unfolding slot_fault_in
-named c = c.check-access.ensures ∙ simp (lt-leb _ _ c.before.before.if1.true)
+named c = c.check_access.ensures ∙ simp (lt-leb _ _ c.if-i_slot-slot_count.true)
 
-not_named : tie.Need-returns-2
+not_named : tie.Need-returns-else-i_slot-slot_count
 unfolding slot_fault_in
-not_named c = c.refuse.ensures ∙ simp (le-leb _ _ c.before.if1.false)
+not_named c = c.refuse.ensures ∙ simp (le-leb _ _ c.if-i_slot-slot_count.false)
 
-pub check-slot-spec : {M : Type 1} → statement M
-check-slot-spec =
+pub check_slot_spec : {M : Type 1} → statement M
+check_slot_spec =
     tie.close (tie.spec (λ c. search rules) (λ c. search rules) (λ c κs. search rules) (λ c κs. search rules) named not_named)

@@ -11,14 +11,13 @@ use Rattle.plan_check.proofs.check_slot_initialization.Tie as tie
 
 decided : tie.Need-returns
 decided c =
-    let b = c.before in
-    let a = b.before.args in
-    let slots = take a.slot-count a.slots in
-    let rec = b.initial-record.result in
+    let a = c.args in
+    let slots = take a.slot_count a.slots in
+    let rec = c.initial_record-constants.result in
     let h : length a.slots ≡ max_slots = search rules in
     let l : length rec ≡ max_slots = search rules in
-    let n : length slots ≡ a.slot-count = length-take-le _ _ (omega arith) in
-    c.check-scans.ensures ∙ rw n at (record-decides slots (take a.scan-count a.scans) rec (omega arith) (rw n b.initial-record.ensures))
+    let n : length slots ≡ a.slot_count = length-take-le _ _ (omega arith) in
+    c.check_scans.ensures ∙ rw n at (record-decides slots (take a.scan_count a.scans) rec (omega arith) (rw n c.initial_record-constants.ensures))
 
-pub check-slot-initialization-spec : {M : Type 1} → statement M
-check-slot-initialization-spec = tie.close (tie.spec (λ c κs. search rules) (λ c κs. search rules) decided)
+pub check_slot_initialization_spec : {M : Type 1} → statement M
+check_slot_initialization_spec = tie.close (tie.spec (λ c κs. search rules) (λ c κs. search rules) decided)

@@ -13,29 +13,28 @@ use Rattle.plan_check.specs.Record.{state_of, constants_record}
 use Rattle.plan_check.proofs.initial_record.Statement.{statement}
 use Rattle.plan_check.proofs.initial_record.Tie as tie
 
-abbrev Inv : tie.invariant-loop
+abbrev Inv : tie.invariant-loop-i_slot
 Inv n slots rec₀ i₀ rec i = (i ≤ n) × (length rec ≡ max_slots) × (take i rec ≡ constants_record (take i slots))
 
-abbrev μ : tie.decreases-loop
+abbrev μ : tie.decreases-loop-i_slot
 μ n slots rec₀ i₀ rec i = n - i
 
-again : tie.Need-loop-preserved Inv μ
+again : tie.Need-loop-i_slot-preserved Inv μ
 again c =
-    let b = c.before.before in
-    let a = b.before.before.args in
-    let l = b.before.loop in
-    let h : length a.t1 ≡ max_slots = search rules in (
+    let a = c.args in
+    let l = c.loop-i_slot in
+    let h : length a.slots ≡ max_slots = search rules in (
       omega arith,
       simp length-set l.invariant.1,
-      map-step (λ (s : SlotRecord). state_of (is_constant s.definition)) a.t1 l.initialization l.i-slot variable_slot
-          c.initialization-of.result (omega arith) (omega arith) c.initialization-of.ensures l.invariant.2,
+      map-step (λ (s : SlotRecord). state_of (is_constant s.definition)) a.slots l.initialization l.i_slot variable_slot
+          c.initialization_of-first.result (omega arith) (omega arith) c.initialization_of-first.ensures l.invariant.2,
     )
 
 done : tie.Need-returns Inv μ
-done c = let e : c.before.loop.i-slot ≡ c.before.before.args.slot-count = omega arith in rw e at c.before.loop.invariant.2
+done c = let e : c.loop-i_slot.i_slot ≡ c.args.slot_count = omega arith in rw e at c.loop-i_slot.invariant.2
 
-pub initial-record-spec : {M : Type 1} → statement M
-initial-record-spec =
+pub initial_record_spec : {M : Type 1} → statement M
+initial_record_spec =
     tie.close
     (tie.spec
     Inv

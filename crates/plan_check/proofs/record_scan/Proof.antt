@@ -7,13 +7,11 @@ use Rattle.plan_check.proofs.record_scan.Tie as tie
 both : tie.Need-returns
 unfolding scan_record
 both c =
-    let b = c.before.before in
-    let f = b.before in
-    let slots = f.before.before.before.slots.ensures in
-    simp (c.record-slot2.ensures, c.before.second-access.ensures, b.record-slot.ensures, f.first-access.ensures, slots)
+    let slots = c.slots-slots.ensures in
+    simp (c.record_slot-2.ensures, c.second_access.ensures, c.record_slot.ensures, c.first_access.ensures, slots)
 
-pub record-scan-spec : {M : Type 1} → statement M
-record-scan-spec =
+pub record_scan_spec : {M : Type 1} → statement M
+record_scan_spec =
     tie.close
     (tie.spec
     (λ c κs. search rules)

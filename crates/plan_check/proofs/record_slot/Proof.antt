@@ -3,12 +3,12 @@ use borrow.Author.Rules.{rules}
 use Rattle.plan_check.proofs.record_slot.Statement.{statement}
 use Rattle.plan_check.proofs.record_slot.Tie as tie
 
-pub record-slot-spec : {M : Type 1} → statement M
-record-slot-spec =
+pub record_slot_spec : {M : Type 1} → statement M
+record_slot_spec =
     tie.close
     (tie.spec
     (λ c. search rules)
     (λ c. search rules)
     (λ c κs. search rules)
     (λ c. search rules)
-    (λ c. rw c.record-write.ensures (simp c.before.enum-told2.given.1)))
+    (λ c. rw c.record_write.ensures (simp c.in-Writes.is)))

@@ -10,39 +10,38 @@ use Rattle.query_check.specs.Refusals.{unused_fault}
 use Rattle.query_check.proofs.check_all_named.Statement.{statement}
 use Rattle.query_check.proofs.check_all_named.Tie as tie
 
-abbrev Inv : tie.invariant-loop
+abbrev Inv : tie.invariant-loop-v
 Inv items n k v₀ v = (v ≤ k) × (unused_fault (take n items) k 0 ≡ unused_fault (take n items) (k - v) v)
 
-abbrev μ : tie.decreases-loop
+abbrev μ : tie.decreases-loop-v
 μ items n k v₀ v = k - v
 
-turn : (c : tie.In-loop Inv μ) →
-    let a = c.before.before.args in let v = c.before.loop.v in
+turn : (c : tie.In-loop-v Inv μ) →
+    let a = c.args in let v = c.loop-v.v in
     unused_fault (take a.count a.items) a.variables 0 ≡ unused_fault (take a.count a.items) (suc (a.variables - (v + 1))) v
 turn c =
-    let a = c.before.before.args in
-    let e : a.variables - c.before.loop.v ≡ suc (a.variables - (c.before.loop.v + 1)) = omega arith in
-    rw e at c.before.loop.invariant.1
+    let a = c.args in
+    let e : a.variables - c.loop-v.v ≡ suc (a.variables - (c.loop-v.v + 1)) = omega arith in
+    rw e at c.loop-v.invariant.1
 
-again : tie.Need-loop-preserved Inv μ
+again : tie.Need-loop-v-preserved Inv μ
 unfolding unused_fault refuse_first first_fault span
-again c = (omega arith, simp (sym c.before.is-named.ensures ∙ c.if1.true) at (turn c.before.before))
+again c = (omega arith, simp (sym c.is_named.ensures ∙ c.if-is_named.true) at (turn c.before.before))
 
-found : tie.Need-returns Inv μ
+found : tie.Need-returns-else-is_named Inv μ
 unfolding unused_fault refuse_first first_fault span
 found c =
-    let b = c.before.before in
-    c.refuse.ensures ∙ sym (simp (sym b.is-named.ensures ∙ c.before.if1.false) at (turn b.before))
+    c.refuse.ensures ∙ sym (simp (sym c.is_named.ensures ∙ c.if-is_named.false) at (turn c.before.before.before))
 
-done : tie.Need-returns-2 Inv μ
+done : tie.Need-returns Inv μ
 unfolding unused_fault refuse_first first_fault span
 done c =
-    let a = c.before.before.args in
-    let e : a.variables - c.before.loop.v ≡ 0 = omega arith in
-    sym (rw e at c.before.loop.invariant.1)
+    let a = c.args in
+    let e : a.variables - c.loop-v.v ≡ 0 = omega arith in
+    sym (rw e at c.loop-v.invariant.1)
 
-pub check-all-named-spec : {M : Type 1} → statement M
-check-all-named-spec =
+pub check_all_named_spec : {M : Type 1} → statement M
+check_all_named_spec =
     tie.close
     (tie.spec
     Inv

@@ -12,40 +12,37 @@ use Rattle.query_check.proofs.check_capacity.Statement.{statement}
 use Rattle.query_check.proofs.check_capacity.Tie as tie
 
 -- what `has_room` said
-room : (c : tie.After-has-room) (t : Bool) → c.has_room.result ≡ t →
-    let a = c.before.before.before.args in
-    ltb max_slots (a.variable-count + constants (take a.statement-count a.items)) ≡ not t
-room c t e = sym (not-not _) ∙ ap not (sym (rw c.before.count-constants.ensures at c.has_room.ensures) ∙ e)
+room : (c : tie.After-has_room) (t : Bool) → c.has_room.result ≡ t →
+    let a = c.args in
+    ltb max_slots (a.variable_count + constants (take a.statement_count a.items)) ≡ not t
+room c t e = sym (not-not _) ∙ ap not (sym (rw c.count_constants-constant_count.ensures at c.has_room.ensures) ∙ e)
 
-statements : tie.Need-returns
+statements : tie.Need-returns-then-statement_count-gt-MAX_STATEMENTS
 unfolding capacity_fault
-statements c = simp (lt-ltb max_statements _ c.before.if1.true) c.refuse.ensures
+statements c = simp (lt-ltb max_statements _ c.if-statement_count-gt-MAX_STATEMENTS.true) c.refuse.ensures
 
-slots : tie.Need-returns-2
+slots : tie.Need-returns-then-not-has_room
 unfolding capacity_fault
-slots c = simp (le-ltb _ _ c.before.before.before.before.if1.false, room c.before.before false (not-true _ c.before.if2.true)) c.refuse2.ensures
+slots c = simp (le-ltb _ _ c.if-statement_count-gt-MAX_STATEMENTS.false, room c.before.before false (not-true _ c.if-not-has_room.true-raw)) c.refuse-then-not-has_room.ensures
 
-selects : tie.Need-returns-3
+selects : tie.Need-returns-then-select_count-gt-MAX_SELECTS
 unfolding capacity_fault
 selects c =
-    let d = c.before.before in
-    simp (le-ltb _ _ d.before.before.before.if1.false, room d.before true (not-false _ d.if2.false), lt-ltb _ _ c.before.if3.true) c.refuse3.ensures
+    simp (le-ltb _ _ c.if-statement_count-gt-MAX_STATEMENTS.false, room c.before.before.before true (not-false _ c.if-not-has_room.false-raw), lt-ltb _ _ c.if-select_count-gt-MAX_SELECTS.true) c.refuse-then-select_count-gt-MAX_SELECTS.ensures
 
-none : tie.Need-returns-4
+none : tie.Need-returns-then-select_count-eq0
 unfolding capacity_fault
 none c =
-    let d = c.before.before.before in
-    simp (le-ltb _ _ d.before.before.before.if1.false, room d.before true (not-false _ d.if2.false), le-ltb _ _ c.before.before.if3.false, eq-eqb _ _ c.before.if4.true)
-    c.refuse4.ensures
+    simp (le-ltb _ _ c.if-statement_count-gt-MAX_STATEMENTS.false, room c.before.before.before.before true (not-false _ c.if-not-has_room.false-raw), le-ltb _ _ c.if-select_count-gt-MAX_SELECTS.false, eq-eqb _ _ c.if-select_count-eq0.true)
+    c.refuse-then-select_count-eq0.ensures
 
-fine : tie.Need-returns-5
+fine : tie.Need-returns
 unfolding capacity_fault
 fine c =
-    let d = c.before.before in
-    simp (le-ltb _ _ d.before.before.before.if1.false, room d.before true (not-false _ d.if2.false), le-ltb _ _ c.before.if3.false, ne_eqb _ _ c.if4.false)
+    simp (le-ltb _ _ c.if-statement_count-gt-MAX_STATEMENTS.false, room c.before.before.before true (not-false _ c.if-not-has_room.false-raw), le-ltb _ _ c.if-select_count-gt-MAX_SELECTS.false, ne_eqb _ _ c.if-select_count-eq0.false)
 
-pub check-capacity-spec : {M : Type 1} → statement M
-check-capacity-spec =
+pub check_capacity_spec : {M : Type 1} → statement M
+check_capacity_spec =
     tie.close
     (tie.spec
     (λ c κs. search rules)

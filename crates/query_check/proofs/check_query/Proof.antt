@@ -9,21 +9,21 @@ use Rattle.query_check.proofs.Capacity.{capacity_fine}
 use Rattle.query_check.proofs.check_query.Statement.{statement}
 use Rattle.query_check.proofs.check_query.Tie as tie
 
-fits : (c : tie.After-enum-told2) →
-    let q = c.before.before.before.before.before.before.args.query in
+fits : (c : tie.In_default) →
+    let q = c.args.query in
     capacity_fault q.variable_count q.where_statements.count (statements_of q) q.select.count ≡ Fine
-fits c = sym c.before.before.check-capacity.ensures ∙ c.enum-told2.given.1
+fits c = sym c.check_capacity-capacity.ensures ∙ c.in_default.is
 
-refused : tie.Need-returns
+refused : tie.Need-returns-in-Refused
 unfolding query_fault
-refused c = c.enum_told.given.1 ∙ simp (sym c.before.before.check-capacity.ensures ∙ c.enum_told.given.1)
+refused c = c.in-Refused.is ∙ simp (sym c.check_capacity-capacity.ensures ∙ c.in-Refused.is)
 
-variables : tie.Need-returns-2
+variables : tie.Need-returns
 unfolding query_fault
-variables c = simp (fits c.before.before) c.check-variables.ensures
+variables c = simp (fits c.before.before) c.check_variables.ensures
 
-pub check-query-spec : {M : Type 1} → statement M
-check-query-spec =
+pub check_query_spec : {M : Type 1} → statement M
+check_query_spec =
     tie.close
     (tie.spec
     (λ c κs. search rules)

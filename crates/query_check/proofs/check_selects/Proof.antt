@@ -16,35 +16,33 @@ use Rattle.query_check.specs.Refusals.{selects_fault}
 use Rattle.query_check.proofs.check_selects.Statement.{statement}
 use Rattle.query_check.proofs.check_selects.Tie as tie
 
-abbrev Inv : tie.invariant-loop
+abbrev Inv : tie.invariant-loop-i
 Inv n v k items i₀ i = Walked (λ j (x : Var). refuse_if (leb v x.0) 14 j) items n k (k + i) i
 
-abbrev μ : tie.decreases-loop
+abbrev μ : tie.decreases-loop-i
 μ n v k items i₀ i = n - i
 
-found : tie.Need-returns Inv μ
+found : tie.Need-returns-then-variables-v Inv μ
 unfolding selects_fault refuse_first
 found c =
-    let w = c.before.before.before.before in
-    c.refuse.ensures ∙ sym (walked-found w.before.loop.invariant zero_var w.loop-test.true (rw (le-leb _ _ c.before.if1.true) refl))
+    c.refuse.ensures ∙ sym (walked-found c.loop-i.invariant zero_var c.loop-i-test.true (rw (le-leb _ _ c.if-variables-v.true) refl))
 
-again : tie.Need-loop-preserved Inv μ
+again : tie.Need-loop-i-preserved Inv μ
 again c =
-    let w = c.before.before.before in
-    rw (← (add_assoc w.before.before.args.statement-count w.before.loop.i 1))
-    (walked_on w.before.loop.invariant zero_var w.loop-test.true (rw (lt-leb _ _ c.if1.false) refl))
+    rw (← (add_assoc c.args.statement_count c.loop-i.i 1))
+    (walked_on c.loop-i.invariant zero_var c.loop-i-test.true (rw (lt-leb _ _ c.if-variables-v.false) refl))
 
-done : tie.Need-returns-2 Inv μ
+done : tie.Need-returns Inv μ
 unfolding selects_fault refuse_first
-done c = sym (walked-done c.before.loop.invariant c.loop-test.false)
+done c = sym (walked-done c.loop-i.invariant c.loop-i-test.false)
 
-pub check-selects-spec : {M : Type 1} → statement M
-check-selects-spec =
+pub check_selects_spec : {M : Type 1} → statement M
+check_selects_spec =
     tie.close
     (tie.spec
     Inv
     μ
-    (λ c. let h : length c.args.t1 ≡ max_selects = search rules in record { within = omega arith; fits = omega arith; rest = rw add-zero })
+    (λ c. let h : length c.args.items ≡ max_selects = search rules in record { within = omega arith; fits = omega arith; rest = rw add-zero })
     (λ c. search rules)
     (λ c. search rules)
     (λ c. search rules)

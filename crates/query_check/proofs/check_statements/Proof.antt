@@ -13,37 +13,33 @@ use Rattle.query_check.specs.Refusals.{high, statements_fault}
 use Rattle.query_check.proofs.check_statements.Statement.{statement}
 use Rattle.query_check.proofs.check_statements.Tie as tie
 
-abbrev Inv : tie.invariant-loop
+abbrev Inv : tie.invariant-loop-i
 Inv n v items i₀ i = Walked (λ j (s : Statement). refuse_if (high v s) 14 j) items n 0 i i
 
-abbrev μ : tie.decreases-loop
+abbrev μ : tie.decreases-loop-i
 μ n v items i₀ i = n - i
 
-found : tie.Need-returns Inv μ
+found : tie.Need-returns-then-is_high Inv μ
 unfolding statements_fault refuse_first
 found c =
-    let b = c.before.before in
-    let w = b.before.before in
     c.refuse.ensures ∙
-    sym (walked-found w.before.loop.invariant zero_statement w.loop-test.true (rw (sym b.is-high.ensures ∙ c.before.if1.true) refl))
+    sym (walked-found c.loop-i.invariant zero_statement c.loop-i-test.true (rw (sym c.is_high.ensures ∙ c.if-is_high.true) refl))
 
-again : tie.Need-loop-preserved Inv μ
+again : tie.Need-loop-i-preserved Inv μ
 again c =
-    let b = c.before in
-    let w = b.before.before in
-    walked_on w.before.loop.invariant zero_statement w.loop-test.true (rw (sym b.is-high.ensures ∙ c.if1.false) refl)
+    walked_on c.loop-i.invariant zero_statement c.loop-i-test.true (rw (sym c.is_high.ensures ∙ c.if-is_high.false) refl)
 
-done : tie.Need-returns-2 Inv μ
+done : tie.Need-returns Inv μ
 unfolding statements_fault refuse_first
-done c = sym (walked-done c.before.loop.invariant c.loop-test.false)
+done c = sym (walked-done c.loop-i.invariant c.loop-i-test.false)
 
-pub check-statements-spec : {M : Type 1} → statement M
-check-statements-spec =
+pub check_statements_spec : {M : Type 1} → statement M
+check_statements_spec =
     tie.close
     (tie.spec
     Inv
     μ
-    (λ c. let h : length c.args.t1 ≡ max_statements = search rules in record { within = omega arith; fits = omega arith; rest = refl })
+    (λ c. let h : length c.args.items ≡ max_statements = search rules in record { within = omega arith; fits = omega arith; rest = refl })
     (λ c. search rules)
     (λ c. search rules)
     (λ c κs. search rules)

@@ -5,28 +5,24 @@ use Rattle.query_check.specs.Refusals.{variables_fault}
 use Rattle.query_check.proofs.check_variables.Statement.{statement}
 use Rattle.query_check.proofs.check_variables.Tie as tie
 
-statements : tie.Need-returns
+statements : tie.Need-returns-in-Refused
 unfolding variables_fault
-statements c = c.enum_told.given.1 ∙ simp (sym c.before.before.check-statements.ensures ∙ c.enum_told.given.1)
+statements c = c.in-Refused.is ∙ simp (sym c.check_statements-statements.ensures ∙ c.in-Refused.is)
 
-selects : tie.Need-returns-2
+selects : tie.Need-returns-in-Refused-selects
 unfolding variables_fault
 selects c =
-    let d = c.before.before in
-    let b = d.before in
-    c.enum-told3.given.1 ∙
-    simp (sym b.before.before.check-statements.ensures ∙ b.enum-told2.given.1, sym d.check-selects.ensures ∙ c.enum-told3.given.1)
+    c.in-Refused-selects.is ∙
+    simp (sym c.check_statements-statements.ensures ∙ c.in_default.is, sym c.check_selects-selects.ensures ∙ c.in-Refused-selects.is)
 
-named : tie.Need-returns-3
+named : tie.Need-returns
 unfolding variables_fault
 named c =
-    let d = c.before.before.before in
-    let b = d.before in
-    simp (sym b.before.before.check-statements.ensures ∙ b.enum-told2.given.1, sym d.check-selects.ensures ∙ c.before.enum-told4.given.1)
-    c.check-all-named.ensures
+    simp (sym c.check_statements-statements.ensures ∙ c.in_default.is, sym c.check_selects-selects.ensures ∙ c.in_default-selects.is)
+    c.check_all_named.ensures
 
-pub check-variables-spec : {M : Type 1} → statement M
-check-variables-spec =
+pub check_variables_spec : {M : Type 1} → statement M
+check_variables_spec =
     tie.close
     (tie.spec
     (λ c κs. search rules)

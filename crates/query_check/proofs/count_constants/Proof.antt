@@ -13,45 +13,43 @@ use Rattle.query_check.proofs.Constants.{constants-few}
 use Rattle.query_check.proofs.count_constants.Statement.{statement}
 use Rattle.query_check.proofs.count_constants.Tie as tie
 
-abbrev Inv : tie.invariant-loop
+abbrev Inv : tie.invariant-loop-i
 Inv n items c₀ i₀ c i = (i ≤ n) × (c ≡ constants (drop i (take n items)))
 
-abbrev μ : tie.decreases-loop
+abbrev μ : tie.decreases-loop-i
 μ n items c₀ i₀ c i = i
 
-start : tie.Need-loop-init Inv μ
+start : tie.Need-loop-i-init Inv μ
 unfolding constants
 start c =
     let a = c.args in
-    let h : length a.t1 ≡ max_statements = search rules in
-    (omega arith, rw (walk_end a.t1 a.count (omega arith) a.count (le_refl a.count)))
+    let h : length a.items ≡ max_statements = search rules in
+    (omega arith, rw (walk_end a.items a.count (omega arith) a.count (le_refl a.count)))
 
 -- one statement towards the front
-next : (c : tie.After-constants-in Inv μ) →
-    let b = c.before.before in let a = b.before.before.args in
-    b.before.loop.constant-count + c.constants-in.result ≡ constants (drop (b.before.loop.i - 1) (take a.count a.t1))
+next : (c : tie.After-constants_in-constant_count Inv μ) →
+    let a = c.args in
+    c.loop-i.constant_count + c.constants_in-constant_count.result ≡ constants (drop (c.loop-i.i - 1) (take a.count a.items))
 unfolding constants
 next c =
-    let b = c.before.before in
-    let a = b.before.before.args in
-    let i = b.before.loop.i in
-    let h : length a.t1 ≡ max_statements = search rules in
+    let a = c.args in
+    let i = c.loop-i.i in
+    let h : length a.items ≡ max_statements = search rules in
     let e : i - 1 + 1 ≡ i = omega arith in
-    rw (walk_step a.t1 a.count (omega arith) zero_statement (i - 1) (omega arith), e) (omega (arith, b.before.loop.invariant.1, c.constants-in.ensures))
+    rw (walk_step a.items a.count (omega arith) zero_statement (i - 1) (omega arith), e) (omega (arith, c.loop-i.invariant.1, c.constants_in-constant_count.ensures))
 
-few : tie.Need-overflow-add-constant-count Inv μ
+few : tie.Need-overflow_add-constant_count Inv μ
 few c =
-    let b = c.before.before in
-    let a = b.before.before.args in
-    let i = b.before.loop.i in
-    let l = drop (i - 1) (take a.count a.t1) in
-    record { fits = omega (arith, next c, constants-few l, length-drop (i - 1) (take a.count a.t1), length-take a.count a.t1) }
+    let a = c.args in
+    let i = c.loop-i.i in
+    let l = drop (i - 1) (take a.count a.items) in
+    record { fits = omega (arith, next c, constants-few l, length-drop (i - 1) (take a.count a.items), length-take a.count a.items) }
 
 done : tie.Need-returns Inv μ
-done c = let e : c.before.loop.i ≡ 0 = omega arith in rw e at c.before.loop.invariant.1
+done c = let e : c.loop-i.i ≡ 0 = omega arith in rw e at c.loop-i.invariant.1
 
-pub count-constants-spec : {M : Type 1} → statement M
-count-constants-spec =
+pub count_constants_spec : {M : Type 1} → statement M
+count_constants_spec =
     tie.close
     (tie.spec
     Inv

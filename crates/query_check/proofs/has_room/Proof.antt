@@ -7,11 +7,11 @@ use Rattle.query_check.proofs.Capacity.{room}
 use Rattle.query_check.proofs.has_room.Statement.{statement}
 use Rattle.query_check.proofs.has_room.Tie as tie
 
-none : tie.Need-returns
+none : tie.Need-returns-then-constant_count-gt-MAX_SLOTS
 none c =
-    let a = c.before.args in
-    let h : max_slots < a.variable-count + a.constant-count = omega arith in
+    let a = c.args in
+    let h : max_slots < a.variable_count + a.constant_count = omega arith in
     simp (lt-ltb _ _ h)
 
-pub has-room-spec : {M : Type 1} → statement M
-has-room-spec = tie.close (tie.spec none (λ c. room max_slots c.before.args.variable-count c.before.args.constant-count (omega arith)))
+pub has_room_spec : {M : Type 1} → statement M
+has_room_spec = tie.close (tie.spec none (λ c. room max_slots c.args.variable_count c.args.constant_count (omega arith)))

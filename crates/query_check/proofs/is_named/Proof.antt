@@ -11,37 +11,37 @@ use Rattle.query.specs.Query.{named, zero_statement}
 use Rattle.query_check.proofs.is_named.Statement.{statement}
 use Rattle.query_check.proofs.is_named.Tie as tie
 
-abbrev Inv : tie.invariant-loop
+abbrev Inv : tie.invariant-loop-i
 Inv n v items i₀ i = (i ≤ n) × (named (take n items) v.0 ≡ named (drop i (take n items)) v.0)
 
-abbrev μ : tie.decreases-loop
+abbrev μ : tie.decreases-loop-i
 μ n v items i₀ i = n - i
 
-turn : (c : tie.In-loop Inv μ) →
-    let a = c.before.before.args in let i = c.before.loop.i in
-    named (take a.count a.t1) a.v.0 ≡ named (get_or a.t1 i zero_statement ∷ drop (i + 1) (take a.count a.t1)) a.v.0
+turn : (c : tie.In-loop-i Inv μ) →
+    let a = c.args in let i = c.loop-i.i in
+    named (take a.count a.items) a.v.0 ≡ named (get_or a.items i zero_statement ∷ drop (i + 1) (take a.count a.items)) a.v.0
 turn c =
-    let a = c.before.before.args in
-    let h : length a.t1 ≡ max_statements = search rules in
-    rw (walk_step a.t1 a.count (omega arith) zero_statement c.before.loop.i c.loop-test.true) at c.before.loop.invariant.1
+    let a = c.args in
+    let h : length a.items ≡ max_statements = search rules in
+    rw (walk_step a.items a.count (omega arith) zero_statement c.loop-i.i c.loop-i-test.true) at c.loop-i.invariant.1
 
-found : tie.Need-returns Inv μ
+found : tie.Need-returns-then-names_variable Inv μ
 unfolding named
-found c = let b = c.before in sym (simp (sym b.names-variable.ensures ∙ c.if1.true) at (turn b.before.before))
+found c = sym (simp (sym c.names_variable.ensures ∙ c.if-names_variable.true) at (turn c.before.before.before))
 
-again : tie.Need-loop-preserved Inv μ
+again : tie.Need-loop-i-preserved Inv μ
 unfolding named
-again c = let b = c.before in (omega arith, simp (sym b.names-variable.ensures ∙ c.if1.false) at (turn b.before.before))
+again c = (omega arith, simp (sym c.names_variable.ensures ∙ c.if-names_variable.false) at (turn c.before.before.before))
 
-done : tie.Need-returns-2 Inv μ
+done : tie.Need-returns Inv μ
 unfolding named
 done c =
-    let a = c.before.before.args in
-    let h : length a.t1 ≡ max_statements = search rules in
-    sym (rw (walk_end a.t1 a.count (omega arith) c.before.loop.i c.loop-test.false) at c.before.loop.invariant.1)
+    let a = c.args in
+    let h : length a.items ≡ max_statements = search rules in
+    sym (rw (walk_end a.items a.count (omega arith) c.loop-i.i c.loop-i-test.false) at c.loop-i.invariant.1)
 
-pub is-named-spec : {M : Type 1} → statement M
-is-named-spec =
+pub is_named_spec : {M : Type 1} → statement M
+is_named_spec =
     tie.close
     (tie.spec
     Inv

@@ -4,12 +4,12 @@ use borrow.Author.Tests.{eq-eqb, ne_eqb}
 use Rattle.query_check.proofs.names_variable.Statement.{statement}
 use Rattle.query_check.proofs.names_variable.Tie as tie
 
-pub names-variable-spec : {M : Type 1} → statement M
-names-variable-spec =
+pub names_variable_spec : {M : Type 1} → statement M
+names_variable_spec =
     tie.close
     (tie.spec
-    (λ c. simp (eq-eqb _ _ c.if1.true))
+    (λ c. simp (eq-eqb _ _ c.if-statement-v.true))
     (λ c. search rules)
     (λ c. search rules)
-    (λ c. simp (ne_eqb _ _ c.before.before.if1.false, c.enum_told.given.1))
-    (λ c. simp (ne_eqb _ _ c.before.before.before.before.before.if1.false, c.before.before.before.value.given.1)))
+    (λ c. simp (ne_eqb _ _ c.if-statement-v.false, c.in-Const.is))
+    (λ c. simp (ne_eqb _ _ c.if-statement-v.false, c.in-Var.is)))
