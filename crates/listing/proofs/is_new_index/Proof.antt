@@ -4,8 +4,8 @@ use borrow.Author.Rules.{rules}
 use Rattle.listing.proofs.is_new_index.Statement.{statement}
 use Rattle.listing.proofs.is_new_index.Tie as tie
 
-pub is-new-index-spec : {M : Type 1} → statement M
-is-new-index-spec =
+pub is_new_index_spec : {M : Type 1} → statement M
+is_new_index_spec =
     tie.close
     (tie.spec
     (λ c. search rules)
@@ -20,12 +20,12 @@ is-new-index-spec =
     (λ c. search rules)
     (λ c. search rules)
     (λ c. search rules)
-    (λ c. rw (c.before.before.enum_told.given.1, c.enum-told2.given.1) refl)
-    (λ c. rw (c.before.before.enum_told.given.1, c.enum-told3.given.1) refl)
-    (λ c. rw (c.before.before.enum_told.given.1, c.enum-told4.given.1) refl)
-    (λ c. rw (c.before.before.enum-told5.given.1, c.enum-told6.given.1) refl)
-    (λ c. rw (c.before.before.enum-told5.given.1, c.enum-told7.given.1) refl)
-    (λ c. rw (c.before.before.enum-told5.given.1, c.enum-told8.given.1) refl)
-    (λ c. rw (c.before.before.enum-told9.given.1, c.enum-told10.given.1) refl)
-    (λ c. rw (c.before.before.enum-told9.given.1, c.enum-told11.given.1) refl)
-    (λ c. rw (c.before.before.enum-told9.given.1, c.enum-told12.given.1) refl))
+    (λ c. rw (c.in-OutOut.is, c.in-Aevt.is) refl)
+    (λ c. rw (c.in-OutOut.is, c.in-Avet.is) refl)
+    (λ c. rw (c.in-OutOut.is, c.in-Eavt.is) refl)
+    (λ c. rw (c.in-InIn.is, c.in-Aevt-index.is) refl)
+    (λ c. rw (c.in-InIn.is, c.in-Avet-index.is) refl)
+    (λ c. rw (c.in-InIn.is, c.in-Eavt-index.is) refl)
+    (λ c. rw (c.in-InOut.is, c.in-Aevt-index-2.is) refl)
+    (λ c. rw (c.in-InOut.is, c.in-Eavt-index-2.is) refl)
+    (λ c. rw (c.in-InOut.is, c.in-Avet-index-2.is) refl))

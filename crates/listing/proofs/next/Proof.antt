@@ -14,11 +14,11 @@ use Rattle.listing.specs.Next.{next_scans, is_new_scans, stepped, with_scans, ne
 use Rattle.listing.proofs.next.Statement.{statement}
 use Rattle.listing.proofs.next.Tie as tie
 
-refused : tie.Need-returns
+refused : tie.Need-returns-in-Refused
 unfolding next_plan_of
 refused c =
-    let counts = sym c.before.before.check-counts.ensures ∙ c.enum_told.given.1 in
-    simp (flows-agree, counts, c.enum_told.given.1)
+    let counts = sym c.check_counts-counts.ensures ∙ c.in-Refused.is in
+    simp (flows-agree, counts, c.in-Refused.is)
 
 -- a plan with the scans of an answer
 abbrev carried : Plan → NextScans → NextPlan
@@ -45,10 +45,9 @@ steps-scans p e = simp (flows-agree, e) (go (scan_flows_fault p.scans p.scan_cou
     go Fine = refl
     go (Refused r) = refl
 
-steps : tie.Need-returns-2
+steps : tie.Need-returns
 steps c =
-    let b = c.before.before.before in
-    rw c.before.next-scans.ensures (steps-scans _ (sym b.before.before.check-counts.ensures ∙ b.enum-told2.given.1))
+    rw c.next_scans-stepped.ensures (steps-scans _ (sym c.check_counts-counts.ensures ∙ c.in_default.is))
 
-pub next-spec : {M : Type 1} → statement M
-next-spec = tie.close (tie.spec (λ c κs. search rules) (λ c. search rules) refused (λ c. search rules) (λ c κs. search rules) steps)
+pub next_spec : {M : Type 1} → statement M
+next_spec = tie.close (tie.spec (λ c κs. search rules) (λ c. search rules) refused (λ c. search rules) (λ c κs. search rules) steps)

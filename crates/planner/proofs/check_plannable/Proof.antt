@@ -21,5 +21,5 @@ planned-verdict q = go (plan_fault q) _
     go Fine p = refl
     go (Refused r) p = refl
 
-pub check-plannable-spec : {M : Type 1} → statement M
-check-plannable-spec = tie.close (tie.spec (λ c κs. search rules) (λ c. ap (λ (r : Planned). r.verdict) c.plan.ensures ∙ planned-verdict _))
+pub check_plannable_spec : {M : Type 1} → statement M
+check_plannable_spec = tie.close (tie.spec (λ c κs. search rules) (λ c. ap (λ (r : Planned). r.verdict) c.plan-planned.ensures ∙ planned-verdict _))

@@ -2,5 +2,5 @@
 use Rattle.planner.proofs.first_scan.Statement.{statement}
 use Rattle.planner.proofs.first_scan.Tie as tie
 
-pub first-scan-spec : {M : Type 1} → statement M
-first-scan-spec = tie.close (tie.spec (λ c. simp (c.before.if1.true, c.if2.true)) (λ c. simp (c.before.if1.true, c.if2.false)) (λ c. simp (c.before.if1.false, c.if3.true)) (λ c. simp (c.before.if1.false, c.if3.false)))
+pub first_scan_spec : {M : Type 1} → statement M
+first_scan_spec = tie.close (tie.spec (λ c. simp (c.if-is_entity_init.true, c.if-is_value_init.true)) (λ c. simp (c.if-is_entity_init.true, c.if-is_value_init.false)) (λ c. simp (c.if-is_entity_init.false, c.if-is_value_init-2.true)) (λ c. simp (c.if-is_entity_init.false, c.if-is_value_init-2.false)))

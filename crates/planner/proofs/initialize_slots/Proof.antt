@@ -19,53 +19,52 @@ use Rattle.planner.proofs.Slots.{slots-none, slots-step}
 use Rattle.planner.proofs.initialize_slots.Statement.{statement}
 use Rattle.planner.proofs.initialize_slots.Tie as tie
 
-abbrev Inv : tie.invariant-loop
+abbrev Inv : tie.invariant-loop-i
 Inv v n items slots₀ next₀ i₀ slots next i = (i ≤ n) × (next ≡ v + constants (take i items)) × (slots ≡ padded variable_slot max_slots (slots_for v (take i items)))
 
-abbrev μ : tie.decreases-loop
+abbrev μ : tie.decreases-loop-i
 μ v n items slots₀ next₀ i₀ slots next i = n - i
 
-start : tie.Need-loop-init Inv μ
+start : tie.Need-loop-i-init Inv μ
 unfolding constants
 start c = (omega arith, omega arith, slots-none c.args.variables (omega (arith, c.requires.few_slots)))
 
-few : (c : tie.In-loop Inv μ) → c.before.loop.i < max_statements
-few c = omega (arith, c.before.before.requires.few_statements)
+few : (c : tie.In-loop-i Inv μ) → c.loop-i.i < max_statements
+few c = omega (arith, c.requires.few_statements)
 
-front : (c : tie.In-loop Inv μ) →
-    let items = c.before.before.args.t2 in let i = c.before.loop.i in
+front : (c : tie.In-loop-i Inv μ) →
+    let items = c.args.items in let i = c.loop-i.i in
     take (i + 1) items ≡ take i items ++ (statement_at items i ∷ [])
 front c =
-    let items = c.before.before.args.t2 in
+    let items = c.args.items in
     let h : length items ≡ max_statements = search rules in
-    rw add-one (take-suc items c.before.loop.i zero_statement (omega (arith, few c)))
+    rw add-one (take-suc items c.loop-i.i zero_statement (omega (arith, few c)))
 
 -- there is a slot for a constant
-room : (c : tie.In-loop Inv μ) →
-    let a = c.before.before.args in let i = c.before.loop.i in
-    a.variables + constants (take i a.t2) + constants_in (statement_at a.t2 i).value ≤ max_slots
+room : (c : tie.In-loop-i Inv μ) →
+    let a = c.args in let i = c.loop-i.i in
+    a.variables + constants (take i a.items) + constants_in (statement_at a.items i).value ≤ max_slots
 room c =
-    let a = c.before.before.args in
-    let i = c.before.loop.i in
-    let e = ap constants (front c) ∙ constants-more (take i a.t2) (statement_at a.t2 i) in
-    omega (arith, e, constants-within a.t2 (i + 1) a.count (omega arith), c.before.before.requires.few_slots)
+    let a = c.args in
+    let i = c.loop-i.i in
+    let e = ap constants (front c) ∙ constants-more (take i a.items) (statement_at a.items i) in
+    omega (arith, e, constants-within a.items (i + 1) a.count (omega arith), c.requires.few_slots)
 
-more : tie.Need-loop-preserved Inv μ
+more : tie.Need-loop-i-preserved Inv μ
 more c =
-    let b = c.before.before.before in
-    let a = b.before.before.args in
-    let i = b.before.loop.i in
-    let v = b.before.loop.invariant in (
+    let a = c.args in
+    let i = c.loop-i.i in
+    let v = c.loop-i.invariant in (
       omega arith,
-      rw (front b, constants-more (take i a.t2) (statement_at a.t2 i), c.constants-in.ensures) (omega (arith, v.1)),
-      rw (front b, c.before.with-constant.ensures, v.1, v.2) (slots-step a.variables (take i a.t2) (statement_at a.t2 i) (room b)),
+      rw (front c.before.before.before, constants-more (take i a.items) (statement_at a.items i), c.constants_in-slot_count.ensures) (omega (arith, v.1)),
+      rw (front c.before.before.before, c.with_constant-next.ensures, v.1, v.2) (slots-step a.variables (take i a.items) (statement_at a.items i) (room c.before.before.before)),
     )
 
 done : tie.Need-returns Inv μ
-done c = let e : c.before.loop.i ≡ c.before.before.args.count = omega arith in rw e at c.before.loop.invariant.2
+done c = let e : c.loop-i.i ≡ c.args.count = omega arith in rw e at c.loop-i.invariant.2
 
-pub initialize-slots-spec : {M : Type 1} → statement M
-initialize-slots-spec =
+pub initialize_slots_spec : {M : Type 1} → statement M
+initialize_slots_spec =
     tie.close
     (tie.spec
     Inv
@@ -73,9 +72,9 @@ initialize-slots-spec =
     start
     (λ c. search rules)
     few
-    (λ c κs. omega (arith, room c.before, c.before.before.loop.invariant.1))
+    (λ c κs. omega (arith, room c.before, c.loop-i.invariant.1))
     (λ c κs. search rules)
-    (λ c. let b = c.before.before.before in record { fits = omega (arith, room b, b.before.loop.invariant.1, c.constants-in.ensures) })
+    (λ c. record { fits = omega (arith, room c.before.before.before, c.loop-i.invariant.1, c.constants_in-slot_count.ensures) })
     (λ c. record { fits = omega (arith, few c.before.before.before) })
     (λ c. search rules)
     more

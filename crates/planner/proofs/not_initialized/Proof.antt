@@ -4,7 +4,7 @@ use Rattle.planner.proofs.not_initialized.Statement.{statement}
 use Rattle.planner.proofs.not_initialized.Tie as tie
 
 refuses : tie.Need-returns
-refuses c = rw c.refuse.ensures
+refuses c = rw c.refuse-verdict.ensures
 
-pub not-initialized-spec : {M : Type 1} → statement M
-not-initialized-spec = tie.close (tie.spec (λ c κs. search rules) refuses)
+pub not_initialized_spec : {M : Type 1} → statement M
+not_initialized_spec = tie.close (tie.spec (λ c κs. search rules) refuses)

@@ -13,39 +13,34 @@ use Rattle.planner.proofs.plan.Statement.{statement}
 use Rattle.planner.proofs.plan.Tie as tie
 
 -- past the check of the query nothing of it is refused
-checked : (c : tie.After-enum-told2) → query_fault c.before.before.before.args.query ≡ Fine
-checked c = sym c.before.before.check-query.ensures ∙ c.enum-told2.given.1
+checked : (c : tie.In_default) → query_fault c.args.query ≡ Fine
+checked c = sym c.check_query-checked.ensures ∙ c.in_default.is
 
 -- the verdict of the scans
-bound : (c : tie.After-initialize-scans) →
-    c.initialize-scans.result.verdict ≡ bound_twice_fault [] (statements_of c.before.before.before.before.before.before.args.query) 0
-bound c = ap (λ (r : Initialized). r.verdict) c.initialize-scans.ensures ∙ initialized-verdict _ _
+bound : (c : tie.After-initialize_scans-initialized) →
+    c.initialize_scans-initialized.result.verdict ≡ bound_twice_fault [] (statements_of c.args.query) 0
+bound c = ap (λ (r : Initialized). r.verdict) c.initialize_scans-initialized.ensures ∙ initialized-verdict _ _
 
-query-refused : tie.Need-returns
+query-refused : tie.Need-returns-in-Refused
 unfolding plan_of plan_fault
 query-refused c =
-    let d = c.before in
-    rw c.empty.ensures (simp (sym d.before.before.check-query.ensures ∙ d.enum_told.given.1, d.enum_told.given.1))
+    rw c.empty-plan.ensures (simp (sym c.check_query-checked.ensures ∙ c.in-Refused.is, c.in-Refused.is))
 
-twice-refused : tie.Need-returns-2
+twice-refused : tie.Need-returns-in-Refused-verdict
 unfolding plan_of plan_fault
 twice-refused c =
-    let d = c.before in
-    let b = d.before.before in
-    rw c.empty2.ensures (simp (checked b.before.before.before, sym (bound b) ∙ d.enum-told3.given.1, d.enum-told3.given.1))
+    rw c.empty-plan-in-Refused-verdict.ensures (simp (checked c.before.before.before.before.before, sym (bound c.before.before) ∙ c.in-Refused-verdict.is, c.in-Refused-verdict.is))
 
-planned : tie.Need-returns-3
+planned : tie.Need-returns
 unfolding plan_of plan_fault plan_for
 planned c =
-    let d = c.before.before.before.before.before in
-    let b = d.before.before in
-    let e = sym (bound b) ∙ d.enum-told4.given.1 in
-    let i = b.initialize-scans.ensures ∙ initialized-fine _ _ e in
-    simp (checked b.before.before.before, e)
-    (rw (i, c.before.before.before.initialize-slots.ensures, c.select-slots.ensures))
+    let e = sym (bound c.before.before.before.before.before.before) ∙ c.in_default-verdict.is in
+    let i = c.initialize_scans-initialized.ensures ∙ initialized-fine _ _ e in
+    simp (checked c.before.before.before.before.before.before.before.before.before, e)
+    (rw (i, c.initialize_slots-slots.ensures, c.select_slots-selected.ensures))
 
-pub plan-spec : {M : Type 1} → statement M
-plan-spec =
+pub plan_spec : {M : Type 1} → statement M
+plan_spec =
     tie.close
     (tie.spec
     (λ c κs. search rules)
@@ -58,6 +53,6 @@ plan-spec =
     (λ c κs. search rules)
     twice-refused
     (λ c. search rules)
-    (λ c κs. query-plannable _ (checked c.before.before.before.before.before.before))
-    (λ c κs. (query-fits _ (checked c.before.before.before.before.before.before.before.before.before)).few_selects)
+    (λ c κs. query-plannable _ (checked c.before.before.before.before.before))
+    (λ c κs. (query-fits _ (checked c.before.before.before.before.before.before.before.before)).few_selects)
     planned)

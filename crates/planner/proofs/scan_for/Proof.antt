@@ -7,8 +7,7 @@ use Rattle.planner.proofs.scan_for.Tie as tie
 made : tie.Need-returns
 unfolding scan_in
 made c =
-    let d = c.before in
-    rw (c.first-scan.ensures, d.is-value-set.ensures, d.before.is_set.ensures, d.before.before.value-slot-of.ensures)
+    rw (c.first_scan.ensures, c.is_value_set-is_value_init.ensures, c.is_set-is_entity_init.ensures, c.value_slot_of-slot_value.ensures)
 
-pub scan-for-spec : {M : Type 1} → statement M
-scan-for-spec = tie.close (tie.spec (λ c κs. search rules) (λ c κs. search rules) (λ c κs. search rules) (λ c κs. search rules) made)
+pub scan_for_spec : {M : Type 1} → statement M
+scan_for_spec = tie.close (tie.spec (λ c κs. search rules) (λ c κs. search rules) (λ c κs. search rules) (λ c κs. search rules) made)

@@ -16,25 +16,25 @@ use Rattle.planner.specs.Planning.{slot_of}
 use Rattle.planner.proofs.select_slots.Statement.{statement}
 use Rattle.planner.proofs.select_slots.Tie as tie
 
-abbrev Inv : tie.invariant-loop
+abbrev Inv : tie.invariant-loop-i
 Inv n chosen select₀ i₀ select i = (i ≤ n) × (select ≡ padded zero_slot max_selects (map slot_of (take i chosen)))
 
-abbrev μ : tie.decreases-loop
+abbrev μ : tie.decreases-loop-i
 μ n chosen select₀ i₀ select i = n - i
 
-more : tie.Need-loop-preserved Inv μ
+more : tie.Need-loop-i-preserved Inv μ
 more c =
-    let a = c.before.before.before.args in
-    let i = c.before.before.loop.i in
-    let h : length a.t1 ≡ max_selects = search rules in
-    let l : length (map slot_of (take i a.t1)) ≡ i = length-map (take i a.t1) slot_of ∙ length-take-le i a.t1 (omega arith) in (
+    let a = c.args in
+    let i = c.loop-i.i in
+    let h : length a.chosen ≡ max_selects = search rules in
+    let l : length (map slot_of (take i a.chosen)) ≡ i = length-map (take i a.chosen) slot_of ∙ length-take-le i a.chosen (omega arith) in (
       omega arith,
-      rw (add-one, take-suc a.t1 i zero_var (omega arith), map-append, c.before.before.loop.invariant.1)
-          (rw l at (padded-more zero_slot max_selects (map slot_of (take i a.t1)) (slot_of (get_or a.t1 i zero_var)) (omega arith))),
+      rw (add-one, take-suc a.chosen i zero_var (omega arith), map-append, c.loop-i.invariant.1)
+          (rw l at (padded-more zero_slot max_selects (map slot_of (take i a.chosen)) (slot_of (get_or a.chosen i zero_var)) (omega arith))),
     )
 
-pub select-slots-spec : {M : Type 1} → statement M
-select-slots-spec =
+pub select_slots_spec : {M : Type 1} → statement M
+select_slots_spec =
     tie.close
     (tie.spec
     Inv
@@ -47,4 +47,4 @@ select-slots-spec =
     (λ c. search rules)
     (λ c. search rules)
     more
-    (λ c. let e : c.before.loop.i ≡ c.before.before.args.count = omega arith in rw e at c.before.loop.invariant.1))
+    (λ c. let e : c.loop-i.i ≡ c.args.count = omega arith in rw e at c.loop-i.invariant.1))

@@ -4,11 +4,11 @@ use borrow.Author.Rules.{rules}
 use Rattle.planner.proofs.with_constant.Statement.{statement}
 use Rattle.planner.proofs.with_constant.Tie as tie
 
-room : tie.Need-array-set-from-next
-room c = omega (arith, rw c.before.value.given.1 at c.before.before.before.requires)
+room : tie.Need-bounds-next-slot_count
+room c = omega (arith, rw c.in-Const.is at c.requires)
 
-stored : tie.Need-returns
-stored c = simp c.before.value.given.1
+stored : tie.Need-returns-in-Const
+stored c = simp c.in-Const.is
 
-pub with-constant-spec : {M : Type 1} → statement M
-with-constant-spec = tie.close (tie.spec (λ c. search rules) (λ c. search rules) room (λ c. search rules) stored (λ c. search rules))
+pub with_constant_spec : {M : Type 1} → statement M
+with_constant_spec = tie.close (tie.spec (λ c. search rules) (λ c. search rules) room (λ c. search rules) stored (λ c. search rules))

@@ -6,20 +6,20 @@ use Rattle.text_names.specs.Names.{select_name_fault}
 use Rattle.text_names.proofs.check_select_name.Statement.{statement}
 use Rattle.text_names.proofs.check_select_name.Tie as tie
 
-bad-names : tie.Need-returns
+bad-names : tie.Need-returns-in-Refused
 unfolding select_name_fault
-bad-names c = c.enum_told.given.1 ∙ simp (sym c.before.before.check-names.ensures ∙ c.enum_told.given.1)
+bad-names c = c.in-Refused.is ∙ simp (sym c.check_names-checked.ensures ∙ c.in-Refused.is)
 
-no-such-select : tie.Need-returns-2
+no-such-select : tie.Need-returns-then-plan-index
 unfolding select_name_fault
-no-such-select c = c.refuse.ensures ∙ simp (sym c.before.before.before.before.before.check-names.ensures ∙ c.before.before.before.enum-told2.given.1, le-leb _ _ c.before.if1.true)
+no-such-select c = c.refuse.ensures ∙ simp (sym c.check_names-checked.ensures ∙ c.in_default.is, le-leb _ _ c.if-plan-index.true)
 
-there : tie.Need-returns-3
+there : tie.Need-returns
 unfolding select_name_fault
-there c = simp (sym c.before.before.before.before.check-names.ensures ∙ c.before.before.enum-told2.given.1, lt-leb _ _ c.if1.false)
+there c = simp (sym c.check_names-checked.ensures ∙ c.in_default.is, lt-leb _ _ c.if-plan-index.false)
 
-pub check-select-name-spec : {M : Type 1} → statement M
-check-select-name-spec =
+pub check_select_name_spec : {M : Type 1} → statement M
+check_select_name_spec =
     tie.close
     (tie.spec
     (λ c κs. search rules)

@@ -8,11 +8,11 @@ use Rattle.text_names.proofs.get_name.Tie as tie
 name : tie.Need-returns
 unfolding name_of
 name c =
-    let a = c.before.before.before.before.before.before.before.before.args in
-    rw (c.before.least2.ensures, c.before.before.start-at.ensures, c.before.before.before.least.ensures, c.before.before.before.before.end-at.ensures) (part-clipped _ _ a.names.now)
+    let a = c.args in
+    rw (c.least-start.ensures, c.start_at.ensures, c.least-end.ensures, c.end_at.ensures) (part-clipped _ _ a.names.now)
 
-pub get-name-spec : {M : Type 1} → statement M
-get-name-spec =
+pub get_name_spec : {M : Type 1} → statement M
+get_name_spec =
     tie.close
     (tie.spec
     (λ c. search rules)

@@ -6,18 +6,18 @@ use Rattle.text_names.specs.Names.{name_of, select_name_of}
 use Rattle.text_names.proofs.get_select_name.Statement.{statement}
 use Rattle.text_names.proofs.get_select_name.Tie as tie
 
-refused : tie.Need-returns
+refused : tie.Need-returns-in-Refused
 unfolding select_name_of
-refused c = simp (sym c.before.before.before.check-select-name.ensures ∙ c.before.enum_told.given.1)
+refused c = simp (sym c.check_select_name-checked.ensures ∙ c.in-Refused.is)
 
-named : tie.Need-returns-2
+named : tie.Need-returns
 unfolding select_name_of
 named c =
-    let a = c.before.before.before.before.before.before.before.before.args in
-    c.get-name.ensures ∙ ap (λ (k : Slot). name_of a.names.now a.ends.now k.0) c.before.slot_at.ensures ∙ simp (sym c.before.before.before.before.before.check-select-name.ensures ∙ c.before.before.before.enum-told2.given.1)
+    let a = c.args in
+    c.get_name.ensures ∙ ap (λ (k : Slot). name_of a.names.now a.ends.now k.0) c.slot_at-slot.ensures ∙ simp (sym c.check_select_name-checked.ensures ∙ c.in_default.is)
 
-pub get-select-name-spec : {M : Type 1} → statement M
-get-select-name-spec =
+pub get_select_name_spec : {M : Type 1} → statement M
+get_select_name_spec =
     tie.close
     (tie.spec
     (λ c κs. search rules)

@@ -3,5 +3,5 @@ use borrow.Author.Tests.{lt-ltb, le-ltb}
 use Rattle.text_names.proofs.is_wrong_end.Statement.{statement}
 use Rattle.text_names.proofs.is_wrong_end.Tie as tie
 
-pub is-wrong-end-spec : {M : Type 1} → statement M
-is-wrong-end-spec = tie.close (tie.spec (λ c. simp (lt-ltb _ _ c.if1.true)) (λ c. simp (le-ltb _ _ c.if1.false)))
+pub is_wrong_end_spec : {M : Type 1} → statement M
+is_wrong_end_spec = tie.close (tie.spec (λ c. simp (lt-ltb _ _ c.if-end-before.true)) (λ c. simp (le-ltb _ _ c.if-end-before.false)))

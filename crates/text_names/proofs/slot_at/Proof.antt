@@ -10,12 +10,12 @@ use Rattle.text_names.proofs.Names.{none-past}
 use Rattle.text_names.proofs.slot_at.Statement.{statement}
 use Rattle.text_names.proofs.slot_at.Tie as tie
 
-pub slot-at-spec : {M : Type 1} → statement M
-slot-at-spec =
+pub slot_at_spec : {M : Type 1} → statement M
+slot_at_spec =
     tie.close
     (tie.spec
-    (λ c. let a = c.before.args in sym (none-past a.t1 a.select-count a.index zero_slot (omega arith)))
-    (λ c. let a = c.before.before.args in let h : length a.t1 ≡ max_selects = search rules in sym (none-past a.t1 a.select-count a.index zero_slot (omega arith)))
+    (λ c. let a = c.args in sym (none-past a.select a.select_count a.index zero_slot (omega arith)))
+    (λ c. let a = c.args in let h : length a.select ≡ max_selects = search rules in sym (none-past a.select a.select_count a.index zero_slot (omega arith)))
     (λ c. search rules)
     (λ c. search rules)
-    (λ c. let a = c.before.before.before.args in sym (get_or-take a.select-count a.t1 a.index zero_slot c.before.before.if1.false)))
+    (λ c. let a = c.args in sym (get_or-take a.select_count a.select a.index zero_slot c.if-select_count-index.false)))

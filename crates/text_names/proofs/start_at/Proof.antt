@@ -14,8 +14,8 @@ end_before : (ends : List ℕ) (k : ℕ) → ((k ≡ 0) → ⊥) → get_or ends
 end_before ends zero f = absurd (f refl)
 end_before ends (suc k) f = ap (λ (n : ℕ). get_or ends n 0) (sub-one (suc k))
 
-pub start-at-spec : {M : Type 1} → statement M
-start-at-spec =
+pub start_at_spec : {M : Type 1} → statement M
+start_at_spec =
     tie.close
     (tie.spec (λ c. search rules) (λ c. search rules) (λ c κs. search rules)
-    (λ c. c.end-at.ensures ∙ end_before _ c.before.before.before.args.i-slot c.before.if1.false))
+    (λ c. c.end_at.ensures ∙ end_before _ c.args.i_slot c.if-i_slot-eq0.false))
