@@ -8,26 +8,23 @@ use Rattle.image_read.proofs.check_end.Statement.{statement}
 use Rattle.image_read.proofs.check_end.Tie as tie
 
 -- past the first test the pad is zero
-zero : (c : tie.Else1) → c.before.pad-is-zero.result ≡ true
-zero c = not-false _ c.if1.false
+zero : (c : tie.Else-not-pad_is_zero) → c.pad_is_zero.result ≡ true
+zero c = not-false _ c.if-not-pad_is_zero.false-raw
 
-pub check-end-spec : {M : Type 1} → statement M
-check-end-spec =
+pub check_end_spec : {M : Type 1} → statement M
+check_end_spec =
     tie.close
     (tie.spec
     (λ c κs. search rules)
     (λ c κs. search rules)
     (λ c.
-    let d = c.before.before in
-    c.refuse.ensures ∙ sym (end_is _ _ d.before.before.requires ∙ simp (sym d.pad-is-zero.ensures ∙ not-true _ c.before.if1.true)))
+    c.refuse.ensures ∙ sym (end_is _ _ c.requires ∙ simp (sym c.pad_is_zero.ensures ∙ not-true _ c.if-not-pad_is_zero.true-raw)))
     (λ c κs. search rules)
     (λ c. search rules)
     (λ c κs. search rules)
     (λ c.
-    let d = c.before.before.before.before in
-    let n = d.before.pad-is-zero.ensures in
-    rw c.before.before.before.bytes_of.ensures at c.refuse2.ensures ∙
-    sym (end_is _ _ d.before.before.before.requires ∙ simp (sym n ∙ zero d, lt-ltb _ _ (rw c.before.before.before.bytes_of.ensures at c.before.if2.true))))
+    let n = c.pad_is_zero.ensures in
+    rw c.bytes_of.ensures at c.refuse-then-length-bytes.ensures ∙
+    sym (end_is _ _ c.requires ∙ simp (sym n ∙ zero c.before.before.before.before, lt-ltb _ _ (rw c.bytes_of.ensures at c.if-length-bytes.true))))
     (λ c.
-    let d = c.before.before.before in
-    sym (end_is _ _ d.before.before.before.requires ∙ simp (sym d.before.pad-is-zero.ensures ∙ zero d, le-ltb _ _ (rw c.before.before.bytes_of.ensures at c.if2.false)))))
+    sym (end_is _ _ c.requires ∙ simp (sym c.pad_is_zero.ensures ∙ zero c.before.before.before, le-ltb _ _ (rw c.bytes_of.ensures at c.if-length-bytes.false)))))

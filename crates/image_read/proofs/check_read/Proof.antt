@@ -4,13 +4,13 @@ use borrow.Author.Rules.{rules}
 use Rattle.image_read.proofs.check_read.Statement.{statement}
 use Rattle.image_read.proofs.check_read.Tie as tie
 
-pub check-read-spec : {M : Type 1} → statement M
-check-read-spec =
+pub check_read_spec : {M : Type 1} → statement M
+check_read_spec =
     tie.close
     (tie.spec
     (λ c κs. search rules)
     (λ c. search rules)
-    (λ c. rw (← c.before.before.check-end.ensures, c.enum_told.given.1) refl)
+    (λ c. rw (← c.check_end-verdict.ensures, c.in-Refused.is) refl)
     (λ c. search rules)
     (λ c κs. search rules)
-    (λ c. rw (← c.before.before.before.check-end.ensures, c.before.enum-told2.given.1) c.check-invariants.ensures))
+    (λ c. rw (← c.check_end-verdict.ensures, c.in_default.is) c.check_invariants.ensures))

@@ -7,18 +7,18 @@ use Rattle.image_read.proofs.Whole.{fields-parted}
 use Rattle.image_read.proofs.read_fields.Statement.{statement}
 use Rattle.image_read.proofs.read_fields.Tie as tie
 
-no-counts : tie.Need-returns
+no-counts : tie.Need-returns-in_default
 no-counts c =
-    let r = read-stop c.before.before.before.before.read-counts.ensures.reads plan_behind c.no-plan.result.plan _ c.before.enum_told.given.1 in
-    rw c.no-plan.ensures (record { answers = r.answers ∙ fields-parted _ _; within = r.within })
+    let r = read-stop c.read_counts-read.ensures.reads plan_behind c.no_plan.result.plan _ c.in_default.is in
+    rw c.no_plan.ensures (record { answers = r.answers ∙ fields-parted _ _; within = r.within })
 
-whole : tie.Need-returns-2
+whole : tie.Need-returns
 whole c =
-    let r = read-then c.before.before.before.before.before.read-counts.ensures.reads plan_behind _ c.before.before.next.given.1 c.read-plan.ensures in
+    let r = read-then c.read_counts-read.ensures.reads plan_behind _ c.in-At.is c.read_plan.ensures in
     record { answers = r.answers ∙ fields-parted _ _; within = r.within }
 
-pub read-fields-spec : {M : Type 1} → statement M
-read-fields-spec =
+pub read_fields_spec : {M : Type 1} → statement M
+read_fields_spec =
     tie.close
     (tie.spec
     (λ c κs. search rules)
@@ -26,5 +26,5 @@ read-fields-spec =
     (λ c. search rules)
     (λ c κs. search rules)
     no-counts
-    (λ c κs. let r = c.before.before.before.before.read-counts.ensures in (read-within r.reads _ c.before.next.given.1, r.few _ c.before.next.given.1))
+    (λ c κs. let r = c.read_counts-read.ensures in (read-within r.reads _ c.in-At.is, r.few _ c.in-At.is))
     whole)

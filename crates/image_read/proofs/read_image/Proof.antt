@@ -6,21 +6,21 @@ use Rattle.image_read.proofs.Whole.{image-stopped, image-refused, image-fine}
 use Rattle.image_read.proofs.read_image.Statement.{statement}
 use Rattle.image_read.proofs.read_image.Tie as tie
 
-pub read-image-spec : {M : Type 1} → statement M
-read-image-spec =
+pub read_image_spec : {M : Type 1} → statement M
+read_image_spec =
     tie.close
     (tie.spec
     (λ c κs. search rules)
     (λ c. search rules)
     (λ c κs. search rules)
     (λ c. search rules)
-    (λ c κs. read-within c.before.before.before.before.read-fields.ensures _ c.before.next2.given.1)
+    (λ c κs. read-within c.read_fields-fields.ensures _ c.in-At.is)
     (λ c. search rules)
     (λ c κs. search rules)
     (λ c. search rules)
-    (λ c. c.not-read.ensures ∙ sym (image-stopped c.before.before.before.before.before.read-fields.ensures _ c.before.before.next.given.1))
+    (λ c. c.not_read.ensures ∙ sym (image-stopped c.read_fields-fields.ensures _ c.in-Stopped.is))
     (λ c.
-    c.not-read2.ensures ∙ sym (image-refused c.before.before.before.before.before.before.before.before.before.read-fields.ensures _ _ c.before.before.before.before.before.before.next2.given.1 (sym c.before.before.before.before.check-read.ensures ∙ c.before.before.verdict.given.1)))
+    c.not_read-in-Refused.ensures ∙ sym (image-refused c.read_fields-fields.ensures _ _ c.in-At.is (sym c.check_read-verdict.ensures ∙ c.in-Refused.is)))
     (λ c.
-    let v = sym c.before.before.check-read.ensures ∙ c.enum_told.given.1 in
-    rw c.enum_told.given.1 (sym (image-fine c.before.before.before.before.before.before.before.read-fields.ensures _ c.before.before.before.before.next2.given.1 v))))
+    let v = sym c.check_read-verdict.ensures ∙ c.in-Fine.is in
+    rw c.in-Fine.is (sym (image-fine c.read_fields-fields.ensures _ c.in-At.is v))))

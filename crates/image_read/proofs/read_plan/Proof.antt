@@ -5,24 +5,21 @@ use Rattle.image_read.proofs.Whole.{no-slots, no-scans, plan-read}
 use Rattle.image_read.proofs.read_plan.Statement.{statement}
 use Rattle.image_read.proofs.read_plan.Tie as tie
 
-pub read-plan-spec : {M : Type 1} → statement M
-read-plan-spec =
+pub read_plan_spec : {M : Type 1} → statement M
+read_plan_spec =
     tie.close
     (tie.spec
     (λ c κs. search rules)
     (λ c. search rules)
     (λ c. search rules)
     (λ c κs. search rules)
-    (λ c. rw c.no-plan.ensures (no-slots _ c.before.before.before.read-slots.ensures _ _ c.before.enum_told.given.1))
-    (λ c κs. (read-within c.before.before.before.read-slots.ensures.reads _ c.before.next.given.1, c.before.before.before.before.before.requires.1.few_scans))
+    (λ c. rw c.no_plan.ensures (no-slots _ c.read_slots-slots.ensures _ _ c.in_default.is))
+    (λ c κs. (read-within c.read_slots-slots.ensures.reads _ c.in-At.is, c.requires.1.few_scans))
     (λ c. search rules)
     (λ c. search rules)
     (λ c κs. search rules)
     (λ c.
-    let d = c.before.before.before.before in
-    rw c.no-plan2.ensures (no-scans _ d.before.before.before.read-slots.ensures _ d.before.next.given.1 c.before.before.before.read-scans.ensures _ _ c.before.enum-told2.given.1))
-    (λ c κs. (read-within c.before.before.before.read-scans.ensures.reads _ c.before.next2.given.1, c.before.before.before.before.before.before.before.before.before.requires.1.few_selects))
+    rw c.no_plan-in_default-next.ensures (no-scans _ c.read_slots-slots.ensures _ c.in-At.is c.read_scans-scans.ensures _ _ c.in_default-next.is))
+    (λ c κs. (read-within c.read_scans-scans.ensures.reads _ c.in-At-next.is, c.requires.1.few_selects))
     (λ c.
-    let e = c.before.before.before.before in
-    let d = e.before.before.before.before in
-    plan-read _ d.before.before.before.read-slots.ensures _ d.before.next.given.1 e.before.before.before.read-scans.ensures _ e.before.next2.given.1 c.before.before.before.read-selects.ensures))
+    plan-read _ c.read_slots-slots.ensures _ c.in-At.is c.read_scans-scans.ensures _ c.in-At-next.is c.read_selects-selects.ensures))

@@ -11,32 +11,32 @@ use Rattle.image_write.proofs.Slots.{slots_next, slots-most}
 use Rattle.image_write.proofs.count_slots.Statement.{statement}
 use Rattle.image_write.proofs.count_slots.Tie as tie
 
-abbrev Inv : tie.invariant-loop
+abbrev Inv : tie.invariant-loop-i_slot
 Inv n slots count₀ i₀ count i = (i ≤ n) × (count ≡ length (laid slot_bits (take i slots)))
 
-abbrev μ : tie.decreases-loop
+abbrev μ : tie.decreases-loop-i_slot
 μ n slots count₀ i₀ count i = n - i
 
-none : tie.Need-loop-init Inv μ
+none : tie.Need-loop-i_slot-init Inv μ
 unfolding laid
 none c = (omega arith, refl)
 
-few : tie.Need-overflow-add-count Inv μ
+few : tie.Need-overflow_add-count Inv μ
 few c =
-    let turn = c.before.before.before.loop in
-    let a = c.before.before.before.before.args in
-    let h : length a.t1 ≡ max_slots = search rules in
-    record { fits = omega (arith, turn.invariant.1, c.count-slot.ensures, slots_next a.t1 turn.i-slot (omega arith), slots-most a.t1 (turn.i-slot + 1) (omega arith)) }
+    let turn = c.loop-i_slot in
+    let a = c.args in
+    let h : length a.slots ≡ max_slots = search rules in
+    record { fits = omega (arith, turn.invariant.1, c.count_slot-count.ensures, slots_next a.slots turn.i_slot (omega arith), slots-most a.slots (turn.i_slot + 1) (omega arith)) }
 
-again : tie.Need-loop-preserved Inv μ
+again : tie.Need-loop-i_slot-preserved Inv μ
 again c =
-    let turn = c.before.before.before.loop in
-    let a = c.before.before.before.before.args in
-    let h : length a.t1 ≡ max_slots = search rules in
-    (omega arith, omega (arith, turn.invariant.1, c.count-slot.ensures, slots_next a.t1 turn.i-slot (omega arith)))
+    let turn = c.loop-i_slot in
+    let a = c.args in
+    let h : length a.slots ≡ max_slots = search rules in
+    (omega arith, omega (arith, turn.invariant.1, c.count_slot-count.ensures, slots_next a.slots turn.i_slot (omega arith)))
 
-pub count-slots-spec : {M : Type 1} → statement M
-count-slots-spec =
+pub count_slots_spec : {M : Type 1} → statement M
+count_slots_spec =
     tie.close
     (tie.spec
     Inv
@@ -49,4 +49,4 @@ count-slots-spec =
     (λ c. omega arith)
     (λ c. omega arith)
     again
-    (λ c. let e : c.before.loop.i-slot ≡ c.before.before.args.slot-count = omega arith in rw (← e) c.before.loop.invariant.1))
+    (λ c. let e : c.loop-i_slot.i_slot ≡ c.args.slot_count = omega arith in rw (← e) c.loop-i_slot.invariant.1))

@@ -11,32 +11,32 @@ use Rattle.image_write.proofs.image_length.Tie as tie
 
 filled : (c : tie.Start) → Filled c.args.plan
 filled c = record {
-  many_scans = simp length-map at c.well-formed.0.1.1.0.1.0.1;
-  many_slots = simp length-map at c.well-formed.0.1.1.1.1.0.1.0.1;
-  many_selects = simp length-map at c.well-formed.0.1.1.1.1.1.1.0.1.0.1;
+  many_scans = search rules;
+  many_slots = search rules;
+  many_selects = search rules;
 }
 
 -- the slots' bits are few
-slots : (c : tie.After-count-slots) → c.count-slots.result ≤ 65 * max_slots
-slots c = let start = c.before.before in omega (arith, c.count-slots.ensures, slots-bits start.args.plan (filled start) start.requires, start.requires.few_slots)
+slots : (c : tie.After-count_slots-slots_bits) → c.count_slots-slots_bits.result ≤ 65 * max_slots
+slots c = omega (arith, c.count_slots-slots_bits.ensures, slots-bits c.args.plan (filled c.before.before) c.requires, c.requires.few_slots)
 
-first-sum : tie.Need-overflow-add-bits
+first-sum : tie.Need-overflow_add-bits
 first-sum c = record { fits = omega (arith, slots c) }
 
-second-sum : tie.Need-overflow-add-bits-2
-second-sum c = record { fits = omega (arith, slots c.before, c.before.before.before.requires.few_scans) }
+second-sum : tie.Need-overflow_add-bits-2
+second-sum c = record { fits = omega (arith, slots c.before, c.requires.few_scans) }
 
-third-sum : tie.Need-overflow-add-bits-3
-third-sum c = let start = c.before.before.before.before in record { fits = omega (arith, slots c.before.before, start.requires.few_scans, start.requires.few_selects) }
+third-sum : tie.Need-overflow_add-bits-3
+third-sum c = record { fits = omega (arith, slots c.before.before, c.requires.few_scans, c.requires.few_selects) }
 
-last_sum : tie.Need-overflow-add-result
-last_sum c = let start = c.before.before.before.before in record { fits = omega (arith, slots c.before.before, start.requires.few_scans, start.requires.few_selects) }
+last_sum : tie.Need-overflow_add-result
+last_sum c = record { fits = omega (arith, slots c.before.before, c.requires.few_scans, c.requires.few_selects) }
 
 long : tie.Need-returns
-long c = let start = c.before.before.before.before in length-counted start.args.plan (filled start) start.requires _ c.before.before.count-slots.ensures
+long c = length-counted c.args.plan (filled c.before.before.before.before) c.requires _ c.count_slots-slots_bits.ensures
 
-pub image-length-spec : {M : Type 1} → statement M
-image-length-spec =
+pub image_length_spec : {M : Type 1} → statement M
+image_length_spec =
     tie.close
     (tie.spec
     (λ c κs. search rules)

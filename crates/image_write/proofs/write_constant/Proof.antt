@@ -13,11 +13,9 @@ use Rattle.image_write.proofs.write_constant.Tie as tie
 both : tie.Need-returns
 unfolding bits
 both c =
-    let second = c.before.before in
-    let first = second.before.before.before.before in
-    let a = first.before.before.before.args in
-    second.write-bits2.ensures ∙ ap (λ (b : List ℕ). bits_over b (a.at + 1) (bits 64 a.value)) first.write-bits.ensures ∙
+    let a = c.args in
+    c.write_bits-2.ensures ∙ ap (λ (b : List ℕ). bits_over b (a.at + 1) (bits 64 a.value)) c.write_bits.ensures ∙
     over-then a.out.now a.at (a.at + 1) (bits 1 1) (bits 64 a.value) (bits_below 1 1) (bits_below 64 a.value) (omega (arith, bits-length 1 1))
 
-pub write-constant-spec : {M : Type 1} → statement M
-write-constant-spec = tie.close (tie.spec (λ c κs. search rules) (λ c. search rules) (λ c κs. search rules) (λ c. search rules) both)
+pub write_constant_spec : {M : Type 1} → statement M
+write_constant_spec = tie.close (tie.spec (λ c κs. search rules) (λ c. search rules) (λ c κs. search rules) (λ c. search rules) both)

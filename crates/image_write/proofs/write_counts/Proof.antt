@@ -13,19 +13,16 @@ use Rattle.image_write.proofs.write_counts.Tie as tie
 
 all : tie.Need-returns
 all c =
-    let third = c.before.before in
-    let second = third.before.before.before.before in
-    let first = second.before.before.before.before in
-    let a = first.before.before.before.args in
-    let n = bits 6 a.scan-count in
-    let m = bits 7 a.slot-count in
-    let k = bits 6 a.select-count in
+    let a = c.args in
+    let n = bits 6 a.scan_count in
+    let m = bits 7 a.slot_count in
+    let k = bits 6 a.select_count in
     let two : _ ≡ bits_over a.out.now 0 (n ++ m) =
-    second.write-bits2.ensures ∙ ap (λ (b : List ℕ). bits_over b 6 m) first.write-bits.ensures ∙
-    over-then a.out.now 0 6 n m (bits_below 6 a.scan-count) (bits_below 7 a.slot-count) (omega (arith, bits-length 6 a.scan-count)) in
-    third.write-bits3.ensures ∙ ap (λ (b : List ℕ). bits_over b 13 k) two ∙
-    over-then a.out.now 0 13 (n ++ m) k (below-append 2 n m (bits_below 6 a.scan-count) (bits_below 7 a.slot-count)) (bits_below 6 a.select-count)
-    (omega (arith, length-append n m, bits-length 6 a.scan-count, bits-length 7 a.slot-count))
+    c.write_bits-2.ensures ∙ ap (λ (b : List ℕ). bits_over b 6 m) c.write_bits.ensures ∙
+    over-then a.out.now 0 6 n m (bits_below 6 a.scan_count) (bits_below 7 a.slot_count) (omega (arith, bits-length 6 a.scan_count)) in
+    c.write_bits-3.ensures ∙ ap (λ (b : List ℕ). bits_over b 13 k) two ∙
+    over-then a.out.now 0 13 (n ++ m) k (below-append 2 n m (bits_below 6 a.scan_count) (bits_below 7 a.slot_count)) (bits_below 6 a.select_count)
+    (omega (arith, length-append n m, bits-length 6 a.scan_count, bits-length 7 a.slot_count))
 
-pub write-counts-spec : {M : Type 1} → statement M
-write-counts-spec = tie.close (tie.spec (λ c κs. search rules) (λ c κs. search rules) (λ c. search rules) (λ c κs. search rules) (λ c. search rules) all)
+pub write_counts_spec : {M : Type 1} → statement M
+write_counts_spec = tie.close (tie.spec (λ c κs. search rules) (λ c κs. search rules) (λ c. search rules) (λ c κs. search rules) (λ c. search rules) all)

@@ -9,21 +9,20 @@ use Rattle.image.proofs.Length.{constant-length}
 use Rattle.image_write.proofs.write_definition.Statement.{statement}
 use Rattle.image_write.proofs.write_definition.Tie as tie
 
-fits : tie.Need-write-constant-requires
+fits : tie.Need-write_constant-requires
 fits c κs =
-    let start = c.before.before.before.before.before in
-    let long : length (definition_bits start.args.definition) ≡ 65 = rw c.before.before.definition.given.1 (constant-length _) in
-    omega (arith, start.requires, long)
+    let long : length (definition_bits c.args.definition) ≡ 65 = rw c.in-Constant.is (constant-length _) in
+    omega (arith, c.requires, long)
 
-variable : tie.Need-returns
+variable : tie.Need-returns-in-Variable
 unfolding bits
-variable c = rw c.before.before.before.before.enum_told.given.1 c.before.before.write-bits.ensures
+variable c = rw c.in-Variable.is c.write_bits.ensures
 
-constant : tie.Need-returns-2
-constant c = rw c.before.before.before.before.before.definition.given.1 c.before.before.write-constant.ensures
+constant : tie.Need-returns-in-Constant
+constant c = rw c.in-Constant.is c.write_constant.ensures
 
-pub write-definition-spec : {M : Type 1} → statement M
-write-definition-spec =
+pub write_definition_spec : {M : Type 1} → statement M
+write_definition_spec =
     tie.close
     (tie.spec
     (λ c. search rules)

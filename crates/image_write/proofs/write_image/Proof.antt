@@ -5,38 +5,29 @@ use Rattle.image_write.proofs.Written.{counted, check-refuses, buffer-short, ima
 use Rattle.image_write.proofs.write_image.Statement.{statement}
 use Rattle.image_write.proofs.write_image.Tie as tie
 
-refuses : tie.Need-returns
+refuses : tie.Need-returns-in-Refused
 refuses c =
-    let checked = c.before.before in
-    let a = checked.before.before.args in
-    check-refuses a.plan a.out.now _ _ checked.check-invariants.ensures c.enum_told.given.1
+    let a = c.args in
+    check-refuses a.plan a.out.now _ _ c.check_invariants-checked.ensures c.in-Refused.is
 
-length-asks : tie.Need-image-length-requires
-length-asks c κs = counted _ (sym c.before.before.check-invariants.ensures ∙ c.enum-told2.given.1)
+length-asks : tie.Need-image_length-length-requires
+length-asks c κs = counted _ (sym c.check_invariants-checked.ensures ∙ c.in_default.is)
 
-short : tie.Need-returns-2
+short : tie.Need-returns-then-out-length
 short c =
-    let measured = c.before.before in
-    let fine = measured.before in
-    let checked = fine.before.before in
-    let a = checked.before.before.args in
-    buffer-short a.plan a.out.now (sym checked.check-invariants.ensures ∙ fine.enum-told2.given.1) _ measured.image-length.ensures _ c.before.if1.true c.refuse.ensures
+    let a = c.args in
+    buffer-short a.plan a.out.now (sym c.check_invariants-checked.ensures ∙ c.in_default.is) _ c.image_length-length.ensures _ c.if-out-length.true c.refuse-no_room.ensures
 
-plan-asks : tie.Need-write-plan-requires
-plan-asks c κs = let fine = c.before.before.before in counted _ (sym fine.before.before.check-invariants.ensures ∙ fine.enum-told2.given.1)
+plan-asks : tie.Need-write_plan-requires
+plan-asks c κs = counted _ (sym c.check_invariants-checked.ensures ∙ c.in_default.is)
 
-writes : tie.Need-returns-3
+writes : tie.Need-returns
 writes c =
-    let written = c.before.before in
-    let room = written.before.before in
-    let measured = room.before in
-    let fine = measured.before in
-    let checked = fine.before.before in
-    let a = checked.before.before.args in
-    image-written a.plan a.out.now (sym checked.check-invariants.ensures ∙ fine.enum-told2.given.1) _ measured.image-length.ensures _ room.if1.false written.write-plan.ensures
+    let a = c.args in
+    image-written a.plan a.out.now (sym c.check_invariants-checked.ensures ∙ c.in_default.is) _ c.image_length-length.ensures _ c.if-out-length.false c.write_plan.ensures
 
-pub write-image-spec : {M : Type 1} → statement M
-write-image-spec =
+pub write_image_spec : {M : Type 1} → statement M
+write_image_spec =
     tie.close
     (tie.spec
     (λ c κs. search rules)

@@ -9,41 +9,30 @@ use Rattle.image_write.proofs.write_plan.Tie as tie
 
 filled : (c : tie.Start) → Filled c.args.plan
 filled c = record {
-  many_scans = simp length-map at c.well-formed.0.1.1.0.1.0.1;
-  many_slots = simp length-map at c.well-formed.0.1.1.1.1.0.1.0.1;
-  many_selects = simp length-map at c.well-formed.0.1.1.1.1.1.1.0.1.0.1;
+  many_scans = search rules;
+  many_slots = search rules;
+  many_selects = search rules;
 }
 
-scans-ask : tie.Need-write-scans-requires
+scans-ask : tie.Need-write_scans-requires
 scans-ask c κs =
-    let slots = c.before.before.before in
-    let start = slots.before.before.before.before.before.before.before.before.before.before in
-    (start.requires.few_scans, omega (arith, slots.write-slots.ensures.0, slots-bits start.args.plan (filled start) start.requires, start.requires.few_slots, start.requires.few_scans))
+    (c.requires.few_scans, omega (arith, c.write_slots-at.ensures.0, slots-bits c.args.plan (filled c.before.before.before.before.before.before.before.before.before.before.before.before.before) c.requires, c.requires.few_slots, c.requires.few_scans))
 
-selects_at : tie.Need-overflow-add-write-selects
+selects_at : tie.Need-overflow_add-at
 selects_at c =
-    let slots = c.before.before.before.before.before.before in
-    let start = slots.before.before.before.before.before.before.before.before.before.before in
-    record { fits = omega (arith, slots.write-slots.ensures.0, slots-bits start.args.plan (filled start) start.requires, start.requires.few_slots, start.requires.few_scans) }
+    record { fits = omega (arith, c.write_slots-at.ensures.0, slots-bits c.args.plan (filled c.before.before.before.before.before.before.before.before.before.before.before.before.before.before.before.before) c.requires, c.requires.few_slots, c.requires.few_scans) }
 
-selects-ask : tie.Need-write-selects-requires
+selects-ask : tie.Need-write_selects-requires
 selects-ask c κs =
-    let slots = c.before.before.before.before.before.before.before in
-    let start = slots.before.before.before.before.before.before.before.before.before.before in
-    (start.requires.few_selects, omega (arith, slots.write-slots.ensures.0, slots-bits start.args.plan (filled start) start.requires, start.requires.few_slots, start.requires.few_scans, start.requires.few_selects))
+    (c.requires.few_selects, omega (arith, c.write_slots-at.ensures.0, slots-bits c.args.plan (filled c.before.before.before.before.before.before.before.before.before.before.before.before.before.before.before.before.before) c.requires, c.requires.few_slots, c.requires.few_scans, c.requires.few_selects))
 
 written : tie.Need-returns
 written c =
-    let selects = c.before.before in
-    let scans = selects.before.before.before.before in
-    let slots = scans.before.before.before.before in
-    let counts = slots.before.before.before.before in
-    let start = counts.before.before.before.before.before.before in
-    plan-written start.args.plan (filled start) start.requires start.args.out.now _ _ _ _ _
-    counts.write-counts.ensures slots.write-slots.ensures.1 slots.write-slots.ensures.0 scans.write-scans.ensures selects.write-selects.ensures
+    plan-written c.args.plan (filled c.before.before.before.before.before.before.before.before.before.before.before.before.before.before.before.before.before.before.before.before) c.requires c.args.out.now _ _ _ _ _
+    c.write_counts.ensures c.write_slots-at.ensures.1 c.write_slots-at.ensures.0 c.write_scans.ensures c.write_selects.ensures
 
-pub write-plan-spec : {M : Type 1} → statement M
-write-plan-spec =
+pub write_plan_spec : {M : Type 1} → statement M
+write_plan_spec =
     tie.close
     (tie.spec
     (λ c κs. search rules)

@@ -6,21 +6,14 @@ use Rattle.image_write.proofs.write_scan.Tie as tie
 
 all : tie.Need-returns
 all c =
-    let fifth = c.before.before in
-    let fourth = fifth.before.before.before.before.before in
-    let third = fourth.before.before.before.before in
-    let second = third.before.before.before.before.before in
-    let flow = second.before.before in
-    let first = flow.before.before.before in
-    let index = first.before.before in
-    let a = index.before.before.args in
+    let a = c.args in
     let s = a.scan in
-    rw (← index.index-code.ensures, ← flow.flow-code.ensures)
+    rw (← c.index_code.ensures, ← c.flow_code.ensures)
     (five-written a.out.now _ _ _ _ _ a.at _ _ s.entity.0 s.attribute.0 s.value.0
-    first.write-bits.ensures second.write-bits2.ensures third.write-bits3.ensures fourth.write-bits4.ensures fifth.write-bits5.ensures)
+    c.write_bits.ensures c.write_bits-2.ensures c.write_bits-3.ensures c.write_bits-4.ensures c.write_bits-5.ensures)
 
-pub write-scan-spec : {M : Type 1} → statement M
-write-scan-spec =
+pub write_scan_spec : {M : Type 1} → statement M
+write_scan_spec =
     tie.close
     (tie.spec
     (λ c. search rules)

@@ -16,29 +16,28 @@ use Rattle.image_write.proofs.Slots.{laid-front}
 use Rattle.image_write.proofs.write_scans.Statement.{statement}
 use Rattle.image_write.proofs.write_scans.Tie as tie
 
-abbrev Inv : tie.invariant-loop
+abbrev Inv : tie.invariant-loop-i_scan
 Inv n start out₀ scans i₀ out i = (i ≤ n) × (out ≡ bits_over out₀ start (laid scan_bits (take i scans)))
 
-abbrev μ : tie.decreases-loop
+abbrev μ : tie.decreases-loop-i_scan
 μ n start out₀ scans i₀ out i = n - i
 
-none : tie.Need-loop-init Inv μ
+none : tie.Need-loop-i_scan-init Inv μ
 unfolding laid
 none c = (omega arith, refl)
 
-again : tie.Need-loop-preserved Inv μ
+again : tie.Need-loop-i_scan-preserved Inv μ
 again c =
-    let written = c.before.before in
-    let turn = written.before.before.before.before.loop in
-    let a = written.before.before.before.before.before.before.args in
-    let h : length a.t1 ≡ max_scans = search rules in
-    let place : a.start + 82 * turn.i-scan ≡ a.start + length (laid scan_bits (take turn.i-scan a.t1)) = omega (arith, laid-front scan_bits 82 scan-length a.t1 turn.i-scan (omega arith)) in (
+    let turn = c.loop-i_scan in
+    let a = c.args in
+    let h : length a.scans ≡ max_scans = search rules in
+    let place : a.start + 82 * turn.i_scan ≡ a.start + length (laid scan_bits (take turn.i_scan a.scans)) = omega (arith, laid-front scan_bits 82 scan-length a.scans turn.i_scan (omega arith)) in (
       omega arith,
-      over-more scan_bits scan-below a.out.now turn.out _ a.start (a.start + 82 * turn.i-scan) a.t1 turn.i-scan zero_scan (omega arith) turn.invariant.1 place written.write-scan.ensures,
+      over-more scan_bits scan-below a.out.now turn.out _ a.start (a.start + 82 * turn.i_scan) a.scans turn.i_scan zero_scan (omega arith) turn.invariant.1 place c.write_scan.ensures,
     )
 
-pub write-scans-spec : {M : Type 1} → statement M
-write-scans-spec =
+pub write_scans_spec : {M : Type 1} → statement M
+write_scans_spec =
     tie.close
     (tie.spec
     Inv
@@ -46,11 +45,11 @@ write-scans-spec =
     none
     (λ c. search rules)
     (λ c. search rules)
-    (λ c. record { fits = omega (arith, c.before.before.before.before.requires.1) })
-    (λ c. record { fits = omega (arith, c.before.before.before.before.requires.1) })
-    (λ c κs. omega (arith, c.before.before.before.before.before.requires.1))
+    (λ c. record { fits = omega (arith, c.requires.1) })
+    (λ c. record { fits = omega (arith, c.requires.1) })
+    (λ c κs. omega (arith, c.requires.1))
     (λ c. omega arith)
     (λ c. omega arith)
     again
-    (λ c. let turn = c.before.loop in ap length turn.invariant.1 ∙ over-length _ _ (laid scan_bits (take turn.i-scan _)))
-    (λ c. let e : c.before.loop.i-scan ≡ c.before.before.before.args.scan-count = omega arith in rw (← e) c.before.loop.invariant.1))
+    (λ c. let turn = c.loop-i_scan in ap length turn.invariant.1 ∙ over-length _ _ (laid scan_bits (take turn.i_scan _)))
+    (λ c. let e : c.loop-i_scan.i_scan ≡ c.args.scan_count = omega arith in rw (← e) c.loop-i_scan.invariant.1))

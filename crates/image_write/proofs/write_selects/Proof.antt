@@ -15,29 +15,28 @@ use Rattle.image_write.proofs.Slots.{laid-front}
 use Rattle.image_write.proofs.write_selects.Statement.{statement}
 use Rattle.image_write.proofs.write_selects.Tie as tie
 
-abbrev Inv : tie.invariant-loop
+abbrev Inv : tie.invariant-loop-i
 Inv n start out₀ select i₀ out i = (i ≤ n) × (out ≡ bits_over out₀ start (laid select_bits (take i select)))
 
-abbrev μ : tie.decreases-loop
+abbrev μ : tie.decreases-loop-i
 μ n start out₀ select i₀ out i = n - i
 
-none : tie.Need-loop-init Inv μ
+none : tie.Need-loop-i-init Inv μ
 unfolding laid
 none c = (omega arith, refl)
 
-again : tie.Need-loop-preserved Inv μ
+again : tie.Need-loop-i-preserved Inv μ
 again c =
-    let written = c.before.before in
-    let turn = written.before.before.before.before.before.loop in
-    let a = written.before.before.before.before.before.before.before.args in
-    let h : length a.t1 ≡ max_selects = search rules in
-    let place : a.start + 7 * turn.i ≡ a.start + length (laid select_bits (take turn.i a.t1)) = omega (arith, laid-front select_bits 7 (λ k. bits-length 7 k.0) a.t1 turn.i (omega arith)) in (
+    let turn = c.loop-i in
+    let a = c.args in
+    let h : length a.select ≡ max_selects = search rules in
+    let place : a.start + 7 * turn.i ≡ a.start + length (laid select_bits (take turn.i a.select)) = omega (arith, laid-front select_bits 7 (λ k. bits-length 7 k.0) a.select turn.i (omega arith)) in (
       omega arith,
-      over-more select_bits (λ k. bits_below 7 k.0) a.out.now turn.out _ a.start (a.start + 7 * turn.i) a.t1 turn.i zero_slot (omega arith) turn.invariant.1 place written.write-bits.ensures,
+      over-more select_bits (λ k. bits_below 7 k.0) a.out.now turn.out _ a.start (a.start + 7 * turn.i) a.select turn.i zero_slot (omega arith) turn.invariant.1 place c.write_bits.ensures,
     )
 
-pub write-selects-spec : {M : Type 1} → statement M
-write-selects-spec =
+pub write_selects_spec : {M : Type 1} → statement M
+write_selects_spec =
     tie.close
     (tie.spec
     Inv
@@ -46,11 +45,11 @@ write-selects-spec =
     (λ c. search rules)
     (λ c. search rules)
     (λ c. search rules)
-    (λ c. record { fits = omega (arith, c.before.before.before.before.before.requires.1) })
-    (λ c. record { fits = omega (arith, c.before.before.before.before.before.requires.1) })
+    (λ c. record { fits = omega (arith, c.requires.1) })
+    (λ c. record { fits = omega (arith, c.requires.1) })
     (λ c κs. search rules)
     (λ c. omega arith)
     (λ c. omega arith)
     again
-    (λ c. let turn = c.before.loop in ap length turn.invariant.1 ∙ over-length _ _ (laid select_bits (take turn.i _)))
-    (λ c. let e : c.before.loop.i ≡ c.before.before.before.args.select-count = omega arith in rw (← e) c.before.loop.invariant.1))
+    (λ c. let turn = c.loop-i in ap length turn.invariant.1 ∙ over-length _ _ (laid select_bits (take turn.i _)))
+    (λ c. let e : c.loop-i.i ≡ c.args.select_count = omega arith in rw (← e) c.loop-i.invariant.1))

@@ -15,47 +15,44 @@ use Rattle.image_write.proofs.Slots.{slots_next, slots-most}
 use Rattle.image_write.proofs.write_slots.Statement.{statement}
 use Rattle.image_write.proofs.write_slots.Tie as tie
 
-abbrev Inv : tie.invariant-loop
+abbrev Inv : tie.invariant-loop-i_slot
 Inv n start out₀ slots at₀ i₀ out at i =
     (i ≤ n) × (at ≡ start + length (laid slot_bits (take i slots))) × (out ≡ bits_over out₀ start (laid slot_bits (take i slots)))
 
-abbrev μ : tie.decreases-loop
+abbrev μ : tie.decreases-loop-i_slot
 μ n start out₀ slots at₀ i₀ out at i = n - i
 
-none : tie.Need-loop-init Inv μ
+none : tie.Need-loop-i_slot-init Inv μ
 unfolding laid
 none c = (omega arith, omega arith, refl)
 
-room : tie.Need-write-definition-requires Inv μ
+room : tie.Need-write_definition-requires Inv μ
 room c κs =
-    let turn = c.before.before.before.loop in
-    let start = c.before.before.before.before.before in
-    let a = start.args in
-    let h : length a.t1 ≡ max_slots = search rules in
-    omega (arith, start.requires.1, turn.invariant.1, slots_next a.t1 turn.i-slot (omega arith), slots-most a.t1 (turn.i-slot + 1) (omega arith))
+    let turn = c.loop-i_slot in
+    let a = c.args in
+    let h : length a.slots ≡ max_slots = search rules in
+    omega (arith, c.requires.1, turn.invariant.1, slots_next a.slots turn.i_slot (omega arith), slots-most a.slots (turn.i_slot + 1) (omega arith))
 
-next_fits : tie.Need-overflow-add-at Inv μ
+next_fits : tie.Need-overflow_add-at Inv μ
 next_fits c =
-    let turn = c.before.before.before.before.before.before.before.loop in
-    let start = c.before.before.before.before.before.before.before.before.before in
-    let a = start.args in
-    let h : length a.t1 ≡ max_slots = search rules in
-    record { fits = omega (arith, start.requires.1, turn.invariant.1, c.count-slot.ensures, slots_next a.t1 turn.i-slot (omega arith), slots-most a.t1 (turn.i-slot + 1) (omega arith)) }
+    let turn = c.loop-i_slot in
+    let a = c.args in
+    let h : length a.slots ≡ max_slots = search rules in
+    record { fits = omega (arith, c.requires.1, turn.invariant.1, c.count_slot-at.ensures, slots_next a.slots turn.i_slot (omega arith), slots-most a.slots (turn.i_slot + 1) (omega arith)) }
 
-again : tie.Need-loop-preserved Inv μ
+again : tie.Need-loop-i_slot-preserved Inv μ
 again c =
-    let written = c.before.before.before in
-    let turn = written.before.before.before.before.loop in
-    let a = written.before.before.before.before.before.before.args in
-    let h : length a.t1 ≡ max_slots = search rules in (
+    let turn = c.loop-i_slot in
+    let a = c.args in
+    let h : length a.slots ≡ max_slots = search rules in (
       omega arith,
-      omega (arith, turn.invariant.1, c.count-slot.ensures, slots_next a.t1 turn.i-slot (omega arith)),
-      over-more slot_bits (λ s. definition-below s.definition) a.out.now turn.out _ a.start turn.at a.t1 turn.i-slot variable_slot (omega arith)
-          turn.invariant.2 turn.invariant.1 written.write-definition.ensures,
+      omega (arith, turn.invariant.1, c.count_slot-at.ensures, slots_next a.slots turn.i_slot (omega arith)),
+      over-more slot_bits (λ s. definition-below s.definition) a.out.now turn.out _ a.start turn.at a.slots turn.i_slot variable_slot (omega arith)
+          turn.invariant.2 turn.invariant.1 c.write_definition.ensures,
     )
 
-pub write-slots-spec : {M : Type 1} → statement M
-write-slots-spec =
+pub write_slots_spec : {M : Type 1} → statement M
+write_slots_spec =
     tie.close
     (tie.spec
     Inv
@@ -69,5 +66,5 @@ write-slots-spec =
     (λ c. omega arith)
     (λ c. omega arith)
     again
-    (λ c. let turn = c.before.loop in ap length turn.invariant.2 ∙ over-length _ _ (laid slot_bits (take turn.i-slot _)))
-    (λ c. let e : c.before.loop.i-slot ≡ c.before.before.before.args.slot-count = omega arith in rw (← e) (c.before.loop.invariant.1, c.before.loop.invariant.2)))
+    (λ c. let turn = c.loop-i_slot in ap length turn.invariant.2 ∙ over-length _ _ (laid slot_bits (take turn.i_slot _)))
+    (λ c. let e : c.loop-i_slot.i_slot ≡ c.args.slot_count = omega arith in rw (← e) (c.loop-i_slot.invariant.1, c.loop-i_slot.invariant.2)))

@@ -8,33 +8,20 @@ use Rattle.text_scan.proofs.write_in_in.Tie as tie
 line : tie.Need-returns
 unfolding flow_line
 line c =
-    let s9 = c.before.before in
-    let s8 = s9.before.before.before.before.before in
-    let s7 = s8.before.before.before.before in
-    let s6 = s7.before.before.before.before in
-    let s5 = s6.before.before.before.before.before in
-    let s4 = s5.before.before.before.before in
-    let s3 = s4.before.before.before.before in
-    let s2 = s3.before.before.before.before.before in
-    let s1 = s2.before.before.before.before in
-    written_then (written_then (written_then (written_then (written_then (written_then (written_then (written_then s1.write.ensures s2.write-scanned.ensures) s3.write2.ensures) s4.write-first-label.ensures) s5.write-slot.ensures) s6.write3.ensures) s7.write-second-label.ensures) s8.write-slot2.ensures) s9.write4.ensures
+    written_then (written_then (written_then (written_then (written_then (written_then (written_then (written_then c.write-at.ensures c.write_scanned-at.ensures) c.write-at-2.ensures) c.write_first_label-at.ensures) c.write_slot-at.ensures) c.write-at-3.ensures) c.write_second_label-at.ensures) c.write_slot-at-2.ensures) c.write.ensures
 
-pub write-in-in-spec : {M : Type 1} → statement M
-write-in-in-spec =
+pub write_in_in_spec : {M : Type 1} → statement M
+write_in_in_spec =
     tie.close
     (tie.spec
-    (λ c. search rules)
-    (λ c κs. search rules)
-    (λ c κs. search rules)
-    (λ c. search rules)
     (λ c κs. search rules)
     (λ c κs. search rules)
     (λ c κs. search rules)
-    (λ c. search rules)
     (λ c κs. search rules)
     (λ c κs. search rules)
     (λ c κs. search rules)
-    (λ c. search rules)
+    (λ c κs. search rules)
+    (λ c κs. search rules)
     (λ c κs. search rules)
     (λ c. written-length (line c))
     line)

@@ -8,28 +8,18 @@ use Rattle.text_scan.proofs.write_in_out.Tie as tie
 line : tie.Need-returns
 unfolding flow_line
 line c =
-    let s7 = c.before.before in
-    let s6 = s7.before.before.before.before.before in
-    let s5 = s6.before.before.before.before in
-    let s4 = s5.before.before.before.before in
-    let s3 = s4.before.before.before.before.before in
-    let s2 = s3.before.before.before.before in
-    let s1 = s2.before.before.before.before in
-    written_then (written_then (written_then (written_then (written_then (written_then s1.write.ensures s2.write-slot.ensures) s3.write-scanned.ensures) s4.write2.ensures) s5.write-first-label.ensures) s6.write-slot2.ensures) s7.write3.ensures
+    written_then (written_then (written_then (written_then (written_then (written_then c.write-at.ensures c.write_slot-at.ensures) c.write_scanned-at.ensures) c.write-at-2.ensures) c.write_first_label-at.ensures) c.write_slot-at-2.ensures) c.write.ensures
 
-pub write-in-out-spec : {M : Type 1} → statement M
-write-in-out-spec =
+pub write_in_out_spec : {M : Type 1} → statement M
+write_in_out_spec =
     tie.close
     (tie.spec
-    (λ c. search rules)
     (λ c κs. search rules)
     (λ c κs. search rules)
     (λ c κs. search rules)
-    (λ c. search rules)
     (λ c κs. search rules)
     (λ c κs. search rules)
     (λ c κs. search rules)
-    (λ c. search rules)
     (λ c κs. search rules)
     (λ c. written-length (line c))
     line)

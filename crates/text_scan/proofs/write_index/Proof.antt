@@ -3,22 +3,19 @@ use borrow.Author.Rules.{rules}
 use Rattle.text_scan.proofs.write_index.Statement.{statement}
 use Rattle.text_scan.proofs.write_index.Tie as tie
 
-pub write-index-spec : {M : Type 1} → statement M
-write-index-spec =
+pub write_index_spec : {M : Type 1} → statement M
+write_index_spec =
     tie.close
     (tie.spec
     (λ c. search rules)
+    (λ c κs. search rules)
     (λ c. search rules)
     (λ c κs. search rules)
     (λ c. search rules)
-    (λ c. search rules)
     (λ c κs. search rules)
     (λ c. search rules)
+    (λ c. rw c.in-Aevt.is c.write.ensures)
     (λ c. search rules)
-    (λ c κs. search rules)
+    (λ c. rw c.in-Avet.is c.write-in-Avet.ensures)
     (λ c. search rules)
-    (λ c. rw c.before.before.before.before.before.enum_told.given.1 c.before.before.write.ensures)
-    (λ c. search rules)
-    (λ c. rw c.before.before.before.before.before.enum-told2.given.1 c.before.before.write2.ensures)
-    (λ c. search rules)
-    (λ c. rw c.before.before.before.before.before.enum-told3.given.1 c.before.before.write3.ensures))
+    (λ c. rw c.in-Eavt.is c.write-in-Eavt.ensures))

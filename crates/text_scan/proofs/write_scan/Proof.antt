@@ -4,20 +4,20 @@ use Rattle.text_scan.specs.Line.{scan_line}
 use Rattle.text_scan.proofs.write_scan.Statement.{statement}
 use Rattle.text_scan.proofs.write_scan.Tie as tie
 
-out-out : tie.Need-returns
+out-out : tie.Need-returns-in-OutOut
 unfolding scan_line
-out-out c = rw c.before.before.before.before.enum_told.given.1 (rw c.before.before.before.before.before.before.before.before.slots.ensures at c.before.before.write-out-out.ensures)
+out-out c = rw c.in-OutOut.is (rw c.slots-order.ensures at c.write_out_out.ensures)
 
-in-out : tie.Need-returns-2
+in-out : tie.Need-returns-in-InOut
 unfolding scan_line
-in-out c = rw c.before.before.before.before.enum-told2.given.1 (rw c.before.before.before.before.before.before.before.before.slots.ensures at c.before.before.write-in-out.ensures)
+in-out c = rw c.in-InOut.is (rw c.slots-order.ensures at c.write_in_out.ensures)
 
-in-in : tie.Need-returns-3
+in-in : tie.Need-returns-in-InIn
 unfolding scan_line
-in-in c = rw c.before.before.before.before.enum-told3.given.1 (rw c.before.before.before.before.before.before.before.before.slots.ensures at c.before.before.write-in-in.ensures)
+in-in c = rw c.in-InIn.is (rw c.slots-order.ensures at c.write_in_in.ensures)
 
-pub write-scan-spec : {M : Type 1} → statement M
-write-scan-spec =
+pub write_scan_spec : {M : Type 1} → statement M
+write_scan_spec =
     tie.close
     (tie.spec
     (λ c κs. search rules)

@@ -6,17 +6,13 @@ use Rattle.text_scan.proofs.write_scanned.Tie as tie
 
 line : tie.Need-returns
 line c =
-    let s3 = c.before.before in
-    let s2 = s3.before.before.before.before in
-    let s1 = s2.before.before.before.before.before in
-    written_then (written_then s1.write-index.ensures s2.write.ensures) s3.write-decimal.ensures
+    written_then (written_then c.write_index-at.ensures c.write-at.ensures) c.write_decimal.ensures
 
-pub write-scanned-spec : {M : Type 1} → statement M
-write-scanned-spec =
+pub write_scanned_spec : {M : Type 1} → statement M
+write_scanned_spec =
     tie.close
     (tie.spec
     (λ c κs. search rules)
-    (λ c. search rules)
     (λ c κs. search rules)
     (λ c κs. search rules)
     (λ c. written-length (line c))

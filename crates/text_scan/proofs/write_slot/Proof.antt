@@ -8,17 +8,13 @@ use Rattle.text_scan.proofs.write_slot.Tie as tie
 line : tie.Need-returns
 unfolding slot_text
 line c =
-    let s3 = c.before.before in
-    let s2 = s3.before.before.before.before.before in
-    let s1 = s2.before.before.before.before.before in
-    written_then (written_then s1.write-name.ensures s2.write.ensures) s3.write-decimal.ensures
+    written_then (written_then c.write_name-at.ensures c.write-at.ensures) c.write_decimal.ensures
 
-pub write-slot-spec : {M : Type 1} → statement M
-write-slot-spec =
+pub write_slot_spec : {M : Type 1} → statement M
+write_slot_spec =
     tie.close
     (tie.spec
     (λ c κs. search rules)
-    (λ c. search rules)
     (λ c κs. search rules)
     (λ c. search rules)
     (λ c κs. search rules)

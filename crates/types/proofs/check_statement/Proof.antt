@@ -9,55 +9,49 @@ use Rattle.types.proofs.check_statement.Statement.{statement}
 use Rattle.types.proofs.check_statement.Tie as tie
 
 -- past the first test the entity is a reference
-entity : (c : tie.Else1) → let a = c.before.before.before.args in unifies_in a.known a.statement.entity.0 reference ≡ true
-entity c = sym c.before.unifies.ensures ∙ not-false _ c.if1.false
+entity : (c : tie.Else-not-unifies) → let a = c.args in unifies_in a.known a.statement.entity.0 reference ≡ true
+entity c = sym c.unifies.ensures ∙ not-false _ c.if-not-unifies.false-raw
 
 -- and past the second the attribute is there
-there : (c : tie.Else2) → c.before.before.before.before.before.args.found.is_some ≡ true
-there c = not-false _ c.if2.false
+there : (c : tie.Else-not-found) → c.args.found.is_some ≡ true
+there c = not-false _ c.if-not-found.false
 
-entity-clash : tie.Need-returns
+entity-clash : tie.Need-returns-then-not-unifies
 unfolding statement_type_fault_in
-entity-clash c = simp (sym c.before.before.unifies.ensures ∙ not-true _ c.before.if1.true) c.refuse.ensures
+entity-clash c = simp (sym c.unifies.ensures ∙ not-true _ c.if-not-unifies.true-raw) c.refuse.ensures
 
-missing : tie.Need-returns-2
+missing : tie.Need-returns-then-not-found
 unfolding statement_type_fault_in
 missing c =
-    let d = c.before.before.before in
-    simp (entity d, not-true d.before.before.before.args.found.is_some c.before.if2.true) c.refuse2.ensures
+    simp (entity c.before.before.before, not-true c.args.found.is_some c.if-not-found.true) c.refuse-then-not-found.ensures
 
-constant : tie.Need-returns-3
+constant : tie.Need-returns-in-Const
 unfolding statement_type_fault_in
 constant c =
-    let d = c.before.before in
-    simp (entity d.before.before, there d, c.enum_told.given.1)
+    simp (entity c.before.before.before, there c.before, c.in-Const.is)
 
-below : tie.Need-unifies-requires-2
-below c κs = let d = c.before.before in rw d.value.given.1 at d.before.before.before.before.before.before.before.requires.value_below
+below : tie.Need-unifies-requires-in-Var
+below c κs = rw c.in-Var.is at c.requires.value_below
 
 -- what the test of the value said
-value : (c : tie.After-unifies2) (t : Bool) → c.unifies2.result ≡ t →
-    let d = c.before.before.before in
-    let a = d.before.before.before.before.before.before.before.args in
+value : (c : tie.After-unifies-in-Var) (t : Bool) → c.unifies-in-Var.result ≡ t →
+    let a = c.args in
     value_unifies_in (with_type_in a.known a.statement.entity.0 reference) a.statement.value a.found.number ≡ t
 value c t e =
-    let d = c.before.before.before in
-    simp d.value.given.1 (sym (rw c.before.with-type.ensures at c.unifies2.ensures) ∙ e)
+    simp c.in-Var.is (sym (rw c.with_type-with_entity.ensures at c.unifies-in-Var.ensures) ∙ e)
 
-variable : tie.Need-returns-4
+variable : tie.Need-returns-then-unifies
 unfolding statement_type_fault_in
 variable c =
-    let d = c.before.before.before.before.before.before in
-    simp (entity d.before.before, there d, value c.before true c.if3.true)
+    simp (entity c.before.before.before.before.before.before, there c.before.before.before.before, value c.before true c.if-unifies.true)
 
-value-clash : tie.Need-returns-5
+value-clash : tie.Need-returns-else-unifies
 unfolding statement_type_fault_in
 value-clash c =
-    let d = c.before.before.before.before.before.before.before in
-    simp (entity d.before.before, there d, value c.before.before false c.before.if3.false) c.refuse3.ensures
+    simp (entity c.before.before.before.before.before.before.before, there c.before.before.before.before.before, value c.before.before false c.if-unifies.false) c.refuse-else-unifies.ensures
 
-pub check-statement-spec : {M : Type 1} → statement M
-check-statement-spec =
+pub check_statement_spec : {M : Type 1} → statement M
+check_statement_spec =
     tie.close
     (tie.spec
     (λ c κs. search rules)

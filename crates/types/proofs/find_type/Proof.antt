@@ -9,44 +9,38 @@ use Rattle.types.proofs.Table.{Halves, less-falls, found, not_found}
 use Rattle.types.proofs.find_type.Statement.{statement}
 use Rattle.types.proofs.find_type.Tie as tie
 
-abbrev Inv : tie.invariant-loop
+abbrev Inv : tie.invariant-loop-low
 Inv t a n low₀ high₀ low high = (n ≡ row_count t) × Halves t a low high
 
-abbrev μ : tie.decreases-loop
+abbrev μ : tie.decreases-loop-low
 μ t a n low₀ high₀ low high = high - low
 
-up : tie.Need-loop-preserved Inv μ
+up : tie.Need-loop-low-preserved-then-attribute_at-wanted Inv μ
 up c =
-    let l = c.before.before.before in
-    let s = lt-ltb c.before.attribute-at.result _ c.if1.true in
-    (refl, between-up (less-falls _ _) l.loop.invariant.1 _ (omega arith) (omega arith) (rw c.before.attribute-at.ensures at s))
+    let s = lt-ltb c.attribute_at.result _ c.if-attribute_at-wanted.true in
+    (refl, between-up (less-falls _ _) c.loop-low.invariant.1 _ (omega arith) (omega arith) (rw c.attribute_at.ensures at s))
 
-down : tie.Need-loop-preserved-2 Inv μ
+down : tie.Need-loop-low-preserved Inv μ
 down c =
-    let l = c.before.before.before in
-    let s = le-ltb c.before.attribute-at.result _ c.if1.false in
-    (refl, between-down (less-falls _ _) l.loop.invariant.1 _ (omega arith) (omega arith) (rw c.before.attribute-at.ensures at s))
+    let s = le-ltb c.attribute_at.result _ c.if-attribute_at-wanted.false in
+    (refl, between-down (less-falls _ _) c.loop-low.invariant.1 _ (omega arith) (omega arith) (rw c.attribute_at.ensures at s))
 
-there : tie.Need-returns Inv μ
+there : tie.Need-returns-then-attribute_at-wanted-2 Inv μ
 there c =
-    let d = c.before.before in
-    let l = d.before.before.before in
-    let e = sym d.attribute-at2.ensures ∙ c.before.if3.true in
-    rw (← e) (found _ l.before.before.requires l.loop.low d.before.if2.true)
+    let e = sym c.attribute_at-then-low-count.ensures ∙ c.if-attribute_at-wanted-2.true in
+    rw (← e) (found _ c.requires c.loop-low.low c.if-low-count.true)
 
-other : tie.Need-returns-2 Inv μ
+other : tie.Need-returns-else-attribute_at-wanted-2 Inv μ
 other c =
-    let l = c.before.before.before.before in
-    not_found _ l.before.before.requires l.loop.low _ l.loop.high l.loop.invariant.1 c.before.before.before.loop-test.false
-    (λ _ q. c.if3.false (c.before.attribute-at2.ensures ∙ q))
+    not_found _ c.requires c.loop-low.low _ c.loop-low.high c.loop-low.invariant.1 c.loop-low-test.false
+    (λ _ q. c.if-attribute_at-wanted-2.false (c.attribute_at-then-low-count.ensures ∙ q))
 
-past : tie.Need-returns-3 Inv μ
+past : tie.Need-returns-else-low-count Inv μ
 past c =
-    let l = c.before.before in
-    not_found _ l.before.before.requires l.loop.low _ l.loop.high l.loop.invariant.1 c.before.loop-test.false (λ h _. absurd (omega arith))
+    not_found _ c.requires c.loop-low.low _ c.loop-low.high c.loop-low.invariant.1 c.loop-low-test.false (λ h _. absurd (omega arith))
 
-pub find-type-spec : {M : Type 1} → statement M
-find-type-spec =
+pub find_type_spec : {M : Type 1} → statement M
+find_type_spec =
     tie.close
     (tie.spec
     Inv

@@ -12,56 +12,47 @@ use Rattle.types.proofs.Begun.{Begun, begun-none, begun_all, begun-refused, begu
 use Rattle.types.proofs.infer_statements.Statement.{statement}
 use Rattle.types.proofs.infer_statements.Tie as tie
 
-abbrev Inv : tie.invariant-loop
+abbrev Inv : tie.invariant-loop-i
 Inv n table items known₀ i₀ known i = Begun n items table known i
 
-abbrev μ : tie.decreases-loop
+abbrev μ : tie.decreases-loop-i
 μ n table items known₀ i₀ known i = n - i
 
-start : tie.Need-loop-init Inv μ
-start c = let h : length c.before.args.t1 ≡ max_statements = search rules in begun-none _ _ _ c.before.requires h
+start : tie.Need-loop-i-init Inv μ
+start c = let h : length c.args.items ≡ max_statements = search rules in begun-none _ _ _ c.requires h
 
-few : (c : tie.In-loop Inv μ) → c.before.loop.i < max_statements
-few c = omega (arith, c.before.before.before.requires.few_statements)
+few : (c : tie.In-loop-i Inv μ) → c.loop-i.i < max_statements
+few c = omega (arith, c.requires.few_statements)
 
-low : (c : tie.In-loop Inv μ) → Below max_slots (get_or c.before.before.before.args.t1 c.before.loop.i zero_statement)
-low c = c.before.before.before.requires.low _ c.loop-test.true
+low : (c : tie.In-loop-i Inv μ) → Below max_slots (get_or c.args.items c.loop-i.i zero_statement)
+low c = c.requires.low _ c.loop-i-test.true
 
 -- the verdict on a statement is that of what the table says of its attribute
-checked : (c : tie.After-check-statement Inv μ) →
-    let l = c.before.before.before.before in
-    let a = l.before.before.before.args in
-    let s = get_or a.t1 l.before.loop.i zero_statement in
-    c.check-statement.result ≡ statement_type_fault_in l.before.loop.known s (found_in a.table.now s.attribute.0) l.before.loop.i
-checked c = rw c.before.find-type.ensures at c.check-statement.ensures
+checked : (c : tie.After-check_statement-verdict Inv μ) →
+    let a = c.args in
+    let s = get_or a.items c.loop-i.i zero_statement in
+    c.check_statement-verdict.result ≡ statement_type_fault_in c.loop-i.known s (found_in a.table.now s.attribute.0) c.loop-i.i
+checked c = rw c.find_type-found.ensures at c.check_statement-verdict.ensures
 
-refused : tie.Need-returns Inv μ
+refused : tie.Need-returns-in-Refused Inv μ
 refused c =
-    let d = c.before.before.before in
-    let l = d.before.before.before.before in
-    let s = l.before.before.before in
-    let h : length s.args.t1 ≡ max_statements = search rules in
-    let e = c.before.enum_told.given.1 in
-    c.not-inferred.ensures ∙ rw e (sym (begun-refused _ _ _ s.requires h l.before.loop.invariant l.loop-test.true _ (sym (checked d) ∙ e)))
+    let h : length c.args.items ≡ max_statements = search rules in
+    let e = c.in-Refused.is in
+    c.not_inferred.ensures ∙ rw e (sym (begun-refused _ _ _ c.requires h c.loop-i.invariant c.loop-i-test.true _ (sym (checked c.before.before) ∙ e)))
 
-more : tie.Need-loop-preserved Inv μ
+more : tie.Need-loop-i-preserved Inv μ
 more c =
-    let d = c.before.before.before in
-    let l = d.before.before.before.before in
-    let s = l.before.before.before in
-    let h : length s.args.t1 ≡ max_statements = search rules in
-    rw (c.with-statement.ensures, d.before.find-type.ensures)
-    (begun_more _ _ _ s.requires h l.before.loop.invariant l.loop-test.true (sym (checked d) ∙ c.before.enum-told2.given.1))
+    let h : length c.args.items ≡ max_statements = search rules in
+    rw (c.with_statement-next.ensures, c.find_type-found.ensures)
+    (begun_more _ _ _ c.requires h c.loop-i.invariant c.loop-i-test.true (sym (checked c.before.before) ∙ c.in_default.is))
 
-all : tie.Need-returns-2 Inv μ
+all : tie.Need-returns Inv μ
 all c =
-    let d = c.before.before in
-    let s = d.before.before in
-    let h : length s.args.t1 ≡ max_statements = search rules in
-    begun_all _ _ _ s.requires h d.loop.invariant c.before.loop-test.false
+    let h : length c.args.items ≡ max_statements = search rules in
+    begun_all _ _ _ c.requires h c.loop-i.invariant c.loop-i-test.false
 
-pub infer-statements-spec : {M : Type 1} → statement M
-infer-statements-spec =
+pub infer_statements_spec : {M : Type 1} → statement M
+infer_statements_spec =
     tie.close
     (tie.spec
     Inv
@@ -69,14 +60,14 @@ infer-statements-spec =
     start
     (λ c. search rules)
     few
-    (λ c κs. c.before.before.before.before.before.requires.ascends)
+    (λ c κs. c.requires.ascends)
     (λ c κs. low c.before.before.before)
     (λ c. search rules)
     (λ c κs. search rules)
     refused
     (λ c. search rules)
-    (λ c κs. low c.before.before.before.before.before.before)
-    (λ c. record { fits = omega (arith, few c.before.before.before.before.before.before.before) })
+    (λ c κs. low c.before.before.before.before.before)
+    (λ c. record { fits = omega (arith, few c.before.before.before.before.before.before) })
     (λ c. omega arith)
     more
     all)

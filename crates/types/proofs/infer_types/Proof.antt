@@ -13,36 +13,33 @@ use Rattle.types.proofs.infer_types.Statement.{statement}
 use Rattle.types.proofs.infer_types.Tie as tie
 
 sized : (c : tie.Start) → length c.args.query.where_statements.items ≡ max_statements
-sized c = simp length-map at c.well-formed.0.1.1.1.0.1.1.0.1.0.1
+sized c = search rules
 
 -- past the first refusal the query can be planned, and past the second the table is one
-fine : (c : tie.After-enum-told2) → plan_fault c.before.before.before.before.args.query ≡ Fine
-fine c = sym c.before.before.check-plannable.ensures ∙ c.enum-told2.given.1
+fine : (c : tie.In_default) → plan_fault c.args.query ≡ Fine
+fine c = sym c.check_plannable-plannable.ensures ∙ c.in_default.is
 
-ascends : (c : tie.Else1) → is_table c.before.before.before.before.before.before.args.table.now ≡ true
-ascends c = sym c.before.is-table.ensures ∙ not-false _ c.if1.false
+ascends : (c : tie.Else-not-is_table) → is_table c.args.table.now ≡ true
+ascends c = sym c.is_table.ensures ∙ not-false _ c.if-not-is_table.false-raw
 
-not-plannable : tie.Need-returns
+not-plannable : tie.Need-returns-in-Refused
 unfolding inferred_of types_fault
 not-plannable c =
-    let d = c.before in
-    let e = d.enum_told.given.1 in
-    c.not-inferred.ensures ∙ simp (sym d.before.before.check-plannable.ensures ∙ e, e)
+    let e = c.in-Refused.is in
+    c.not_inferred.ensures ∙ simp (sym c.check_plannable-plannable.ensures ∙ e, e)
 
-no_table : tie.Need-returns-2
+no_table : tie.Need-returns-then-not-is_table
 unfolding inferred_of types_fault
 no_table c =
-    let d = c.before.before in
-    rw c.before.refuse.ensures at c.not-inferred2.ensures ∙
-    simp (fine d.before.before, sym d.before.is-table.ensures ∙ not-true _ d.if1.true)
+    rw c.refuse-verdict.ensures at c.not_inferred-then-not-is_table.ensures ∙
+    simp (fine c.before.before.before.before, sym c.is_table.ensures ∙ not-true _ c.if-not-is_table.true-raw)
 
-typable : tie.Need-infer-statements-requires
+typable : tie.Need-infer_statements-requires
 typable c κs =
-    let d = c.before.before in
-    query-typable _ (fine d.before.before) _ (ascends d) (sized d.before.before.before.before.before.before)
+    query-typable _ (fine c.before.before.before.before) _ (ascends c.before.before) (sized c.before.before.before.before.before.before.before)
 
-pub infer-types-spec : {M : Type 1} → statement M
-infer-types-spec =
+pub infer_types_spec : {M : Type 1} → statement M
+infer_types_spec =
     tie.close
     (tie.spec
     (λ c κs. search rules)
@@ -55,4 +52,4 @@ infer-types-spec =
     (λ c κs. search rules)
     no_table
     typable
-    (λ c. let d = c.before.before.before in c.infer-statements.ensures ∙ answered _ (fine d.before.before) _ (ascends d)))
+    (λ c. c.infer_statements.ensures ∙ answered _ (fine c.before.before.before.before.before) _ (ascends c.before.before.before)))

@@ -3,13 +3,13 @@ use borrow.Author.Rules.{rules}
 use Rattle.types.proofs.unifies.Statement.{statement}
 use Rattle.types.proofs.unifies.Tie as tie
 
-pub unifies-spec : {M : Type 1} → statement M
-unifies-spec =
+pub unifies_spec : {M : Type 1} → statement M
+unifies_spec =
     tie.close
     (tie.spec
     (λ c. search rules)
     (λ c. search rules)
     (λ c. search rules)
     (λ c. search rules)
-    (λ c. simp c.before.if1.true)
-    (λ c. simp c.if1.false))
+    (λ c. simp c.if-known-i.true)
+    (λ c. simp c.if-known-i.false))

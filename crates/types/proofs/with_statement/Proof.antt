@@ -4,16 +4,16 @@ use Rattle.types.specs.Record.{with_statement_in}
 use Rattle.types.proofs.with_statement.Statement.{statement}
 use Rattle.types.proofs.with_statement.Tie as tie
 
-below : tie.Need-with-type-requires-2
-below c κs = rw c.before.value.given.1 at c.before.before.before.before.before.requires.value_below
+below : tie.Need-with_type-requires
+below c κs = rw c.in-Var.is at c.requires.value_below
 
-constant : tie.Need-returns
+constant : tie.Need-returns-in-Const
 unfolding with_statement_in
-constant c = simp c.enum_told.given.1 c.before.before.with-type.ensures
+constant c = simp c.in-Const.is c.with_type-next.ensures
 
-variable : tie.Need-returns-2
+variable : tie.Need-returns-in-Var
 unfolding with_statement_in
-variable c = simp c.before.before.value.given.1 (rw c.before.before.before.before.with-type.ensures at c.with-type2.ensures)
+variable c = simp c.in-Var.is (rw c.with_type-next.ensures at c.with_type.ensures)
 
-pub with-statement-spec : {M : Type 1} → statement M
-with-statement-spec = tie.close (tie.spec (λ c κs. search rules) (λ c. search rules) (λ c. search rules) below constant variable)
+pub with_statement_spec : {M : Type 1} → statement M
+with_statement_spec = tie.close (tie.spec (λ c κs. search rules) (λ c. search rules) (λ c. search rules) below constant variable)

@@ -3,5 +3,5 @@ use borrow.Author.Rules.{rules}
 use Rattle.types.proofs.with_type.Statement.{statement}
 use Rattle.types.proofs.with_type.Tie as tie
 
-pub with-type-spec : {M : Type 1} → statement M
-with-type-spec = tie.close (tie.spec (λ c. search rules) (λ c. search rules) (λ c. search rules) (λ c. search rules) (λ c. search rules))
+pub with_type_spec : {M : Type 1} → statement M
+with_type_spec = tie.close (tie.spec (λ c. search rules) (λ c. search rules) (λ c. search rules) (λ c. search rules) (λ c. search rules))

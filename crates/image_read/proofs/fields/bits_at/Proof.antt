@@ -12,24 +12,24 @@ use Rattle.image_read.proofs.fields.bits_at.Statement.{statement}
 use Rattle.image_read.proofs.fields.bits_at.Tie as tie
 
 -- the number of both
-joined : tie.Need-returns-2
+joined : tie.Need-returns
 joined c =
-    let a = c.before.before.before.before.before.before.args in
+    let a = c.args in
     let b = a.bytes.now in
     let at = bit_of a.at in
     let v = a.width - 32 in
     let e : v + 32 ≡ a.width = omega arith in
-    let low = c.before.part-at3.ensures ∙ ap (λ (n : ℕ). number (bits_at b n 32)) c.before.before.later.ensures.later in
-    rw (c.before.before.before.part-at2.ensures, low, c.power.ensures) (sym (two-parts b at v 32 (omega arith)) ∙ ap (λ (n : ℕ). number (bits_at b at n)) e)
+    let low = c.part_at-low.ensures ∙ ap (λ (n : ℕ). number (bits_at b n 32)) c.later.ensures.later in
+    rw (c.part_at-high.ensures, low, c.power.ensures) (sym (two-parts b at v 32 (omega arith)) ∙ ap (λ (n : ℕ). number (bits_at b at n)) e)
 
 -- is a word
-fits : (c : tie.After-power) → c.before.before.before.part-at2.result * c.power.result + c.before.part-at3.result < 2 ^ 64
+fits : (c : tie.After-power) → c.part_at-high.result * c.power.result + c.part_at-low.result < 2 ^ 64
 fits c =
-    let a = c.before.before.before.before.before.before.args in
+    let a = c.args in
     rw (joined c) (lt_of_lt_of_le (bits-at-lt a.bytes.now (bit_of a.at) a.width (omega arith)) (pow_mono {j = 64} (omega arith)))
 
-pub bits-at-spec : {M : Type 1} → statement M
-bits-at-spec =
+pub bits_at_spec : {M : Type 1} → statement M
+bits_at_spec =
     tie.close
     (tie.spec
     (λ c κs. search rules)

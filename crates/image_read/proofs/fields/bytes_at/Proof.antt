@@ -8,29 +8,27 @@ use Rattle.image_read.proofs.Window.{bits_at, no_bytes, bits-at-lt, byte_more, b
 use Rattle.image_read.proofs.fields.bytes_at.Statement.{statement}
 use Rattle.image_read.proofs.fields.bytes_at.Tie as tie
 
-abbrev Inv : tie.invariant-loop
+abbrev Inv : tie.invariant-loop-i
 Inv bytes from count value₀ i₀ value i = (i ≤ count) × (value ≡ number (bits_at bytes (8 * from) (8 * i)))
 
-abbrev μ : tie.decreases-loop
+abbrev μ : tie.decreases-loop-i
 μ bytes from count value₀ i₀ value i = count - i
 
 -- the number so far fits its bytes
-small : (c : tie.In-loop Inv μ) → c.before.loop.value < 2 ^ (8 * c.before.loop.i)
+small : (c : tie.In-loop-i Inv μ) → c.loop-i.value < 2 ^ (8 * c.loop-i.i)
 small c =
-    let l = c.before in
-    let a = l.before.before.args in
-    rw l.loop.invariant.1 (bits-at-lt a.bytes.now (8 * a.from) (8 * l.loop.i) (omega arith))
+    let a = c.args in
+    rw c.loop-i.invariant.1 (bits-at-lt a.bytes.now (8 * a.from) (8 * c.loop-i.i) (omega arith))
 
-again : tie.Need-loop-preserved Inv μ
+again : tie.Need-loop-i-preserved Inv μ
 again c =
-    let l = c.before.before.before in
-    let a = l.before.before.args in
+    let a = c.args in
     let w = c.wide.ensures in
-    let e = byte_more a.bytes.now a.from l.loop.i (omega arith) (rw (← w.0) w.1) in
-    (omega arith, sym (e ∙ rw (← l.loop.invariant.1, ← w.0) refl))
+    let e = byte_more a.bytes.now a.from c.loop-i.i (omega arith) (rw (← w.0) w.1) in
+    (omega arith, sym (e ∙ rw (← c.loop-i.invariant.1, ← w.0) refl))
 
-pub bytes-at-spec : {M : Type 1} → statement M
-bytes-at-spec =
+pub bytes_at_spec : {M : Type 1} → statement M
+bytes_at_spec =
     tie.close
     (tie.spec
     Inv
@@ -44,4 +42,4 @@ bytes-at-spec =
     (λ c. omega arith)
     (λ c. omega arith)
     again
-    (λ c. let e : c.before.loop.i ≡ c.before.before.before.args.count = omega arith in rw (← e) c.before.loop.invariant.1))
+    (λ c. let e : c.loop-i.i ≡ c.args.count = omega arith in rw (← e) c.loop-i.invariant.1))

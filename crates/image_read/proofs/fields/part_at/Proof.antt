@@ -10,14 +10,14 @@ use Rattle.image_read.proofs.fields.part_at.Tie as tie
 
 returns : tie.Need-returns
 returns c =
-    let a = c.before.before.before.before.before.before.args in
-    let m = c.before.before.before.bytes_of.result in
+    let a = c.args in
+    let m = c.bytes_of-count.result in
     let past = a.at.bit + a.width in
-    rw (c.before.before.bytes-at.ensures, c.before.power.ensures, c.power2.ensures)
+    rw (c.bytes_at.ensures, c.power.ensures, c.power-2.ensures)
     (sym (window a.bytes.now a.at.byte m a.at.bit a.width (8 * m - past) (omega arith) (omega arith)))
 
-pub part-at-spec : {M : Type 1} → statement M
-part-at-spec =
+pub part_at_spec : {M : Type 1} → statement M
+part_at_spec =
     tie.close
     (tie.spec
     (λ c. search rules)
@@ -28,5 +28,5 @@ part-at-spec =
     (λ c κs. search rules)
     (λ c. rw c.power.ensures (pow_pos _))
     (λ c κs. search rules)
-    (λ c. rw c.power2.ensures (pow_pos _))
+    (λ c. rw c.power-2.ensures (pow_pos _))
     returns)

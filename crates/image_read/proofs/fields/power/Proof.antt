@@ -7,5 +7,5 @@ use lib.Pow.{shl_exact}
 use Rattle.image_read.proofs.fields.power.Statement.{statement}
 use Rattle.image_read.proofs.fields.power.Tie as tie
 
-pub power-spec : {M : Type 1} → statement M
-power-spec = tie.close (tie.spec (λ c. search rules) (λ c. shl_exact {a = 1} 1 _ 64 (omega arith) (omega arith) ∙ one-mul _))
+pub power_spec : {M : Type 1} → statement M
+power_spec = tie.close (tie.spec (λ c. search rules) (λ c. shl_exact {a = 1} 1 _ 64 (omega arith) (omega arith) ∙ one-mul _))

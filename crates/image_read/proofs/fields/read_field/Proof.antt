@@ -12,16 +12,16 @@ use Rattle.image_read.proofs.fields.read_field.Statement.{statement}
 use Rattle.image_read.proofs.fields.read_field.Tie as tie
 
 -- past the test the field is there
-there : (c : tie.Else1) → let a = c.before.before.before.args in ltb (8 * length a.bytes.now) (bit_of a.at + a.width) ≡ false
-there c = sym c.before.runs-out.ensures ∙ c.if1.false
+there : (c : tie.Else-runs_out) → let a = c.args in ltb (8 * length a.bytes.now) (bit_of a.at + a.width) ≡ false
+there c = sym c.runs_out.ensures ∙ c.if-runs_out.false
 
-pub read-field-spec : {M : Type 1} → statement M
-read-field-spec =
+pub read_field_spec : {M : Type 1} → statement M
+read_field_spec =
     tie.close
     (tie.spec
     (λ c κs. search rules)
     (λ c κs. search rules)
-    (λ c. let d = c.before.before in rw c.stop.ensures (field-short _ _ _ d.before.before.requires.0 (sym d.runs-out.ensures ∙ c.before.if1.true)))
+    (λ c. rw c.stop.ensures (field-short _ _ _ c.requires.0 (sym c.runs_out.ensures ∙ c.if-runs_out.true)))
     (λ c κs. search rules)
-    (λ c κs. let p = c.before.before.before.before.requires in (record { in_byte = p.0.in_byte; there = ltb-false _ _ (there c.before) }, p.1))
-    (λ c. field-met _ _ _ c.before.before.before.before.before.requires.0 _ _ (there c.before.before) c.before.later.ensures c.bits_at.ensures))
+    (λ c κs. let p = c.requires in (record { in_byte = p.0.in_byte; there = ltb-false _ _ (there c.before) }, p.1))
+    (λ c. field-met _ _ _ c.requires.0 _ _ (there c.before.before) c.later-behind.ensures c.bits_at.ensures))

@@ -4,14 +4,14 @@ use Rattle.image_read.proofs.Made.{code-stopped, code-refused, code-met}
 use Rattle.image_read.proofs.parts.read_code.Statement.{statement}
 use Rattle.image_read.proofs.parts.read_code.Tie as tie
 
-pub read-code-spec : {M : Type 1} → statement M
-read-code-spec =
+pub read_code_spec : {M : Type 1} → statement M
+read_code_spec =
     tie.close
     (tie.spec
     (λ c κs. search rules)
     (λ c. search rules)
     (λ c. search rules)
-    (λ c. code-stopped c.before.before.read-field.ensures.reads _ c.enum-told2.given.1)
+    (λ c. code-stopped c.read_field-field.ensures.reads _ c.in_default.is)
     (λ c κs. search rules)
-    (λ c. let d = c.before.before.before in rw c.stop.ensures (code-refused d.before.before.read-field.ensures.reads _ d.enum_told.given.1 _ d.before.before.before.before.requires c.before.if1.true))
-    (λ c. let d = c.before.before in code-met d.before.before.read-field.ensures.reads _ d.enum_told.given.1 c.if1.false))
+    (λ c. rw c.stop.ensures (code-refused c.read_field-field.ensures.reads _ c.in-At.is _ c.requires c.if-field-eq-NO_CODE.true))
+    (λ c. code-met c.read_field-field.ensures.reads _ c.in-At.is c.if-field-eq-NO_CODE.false))

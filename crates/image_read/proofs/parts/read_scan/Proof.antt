@@ -14,89 +14,85 @@ use Rattle.image_read.proofs.parts.read_scan.Statement.{statement}
 use Rattle.image_read.proofs.parts.read_scan.Tie as tie
 
 -- the places where a field begins, each with the way to the one before and the number read there
-abbrev flow : tie.After-known-told2 → tie.After-known-told
-flow c = c.before.before.before.before
+abbrev flow : tie.In-At-next → tie.In-At
+flow c = c.before.before
 
-abbrev entity : tie.After-known-told3 → tie.After-known-told2
-entity c = c.before.before.before.before
+abbrev entity : tie.In-At-next-2 → tie.In-At-next
+entity c = c.before.before
 
-abbrev attribute : tie.After-known-told4 → tie.After-known-told3
-attribute c = c.before.before.before.before
+abbrev attribute : tie.In-At-next-3 → tie.In-At-next-2
+attribute c = c.before.before
 
-abbrev index_read : tie.After-known-told → ℕ
-index_read c = c.before.before.before.read-code.result.number
+abbrev index_read : tie.In-At → ℕ
+index_read c = c.read_code-index.result.number
 
-abbrev flow-read : tie.After-known-told2 → ℕ
-flow-read c = c.before.before.before.read-code2.result.number
+abbrev flow-read : tie.In-At-next → ℕ
+flow-read c = c.read_code-flow.result.number
 
-abbrev entity-read : tie.After-known-told3 → ℕ
-entity-read c = c.before.before.before.read-field.result.number
+abbrev entity-read : tie.In-At-next-2 → ℕ
+entity-read c = c.read_field-entity.result.number
 
-abbrev attribute-read : tie.After-known-told4 → ℕ
-attribute-read c = c.before.before.before.read-field2.result.number
+abbrev attribute-read : tie.In-At-next-3 → ℕ
+attribute-read c = c.read_field-attribute.result.number
 
 -- an answer of what is read from a place on is one of the scan
-abbrev Serves : tie.After-known-told → (List ℕ → ℕ → Parsed Scan) → Cursor → Type 0
+abbrev Serves : tie.In-At → (List ℕ → ℕ → Parsed Scan) → Cursor → Type 0
 Serves c p d =
-    let a = c.before.before.before.before.before.args in
+    let a = c.args in
     (n : Next) (s : Scan) → Reads p a.bytes.now d n s → Reads scan a.bytes.now a.at n s
 
-from-flow : (c : tie.After-known-told) → Serves c (from_flow (index_read c)) c.before.next.given.0.0
+from-flow : (c : tie.In-At) → Serves c (from_flow (index_read c)) c.in-At.at
 unfolding scan
-from-flow c n s r = read-then c.before.before.before.read-code.ensures from_flow _ c.before.next.given.1 r
+from-flow c n s r = read-then c.read_code-index.ensures from_flow _ c.in-At.is r
 
-from-entity : (c : tie.After-known-told2) → Serves (flow c) (from_entity (index_read (flow c)) (flow-read c)) c.before.next2.given.0.0
+from-entity : (c : tie.In-At-next) → Serves (flow c) (from_entity (index_read (flow c)) (flow-read c)) c.in-At-next.at
 from-entity c n s r =
-    from-flow (flow c) n s (read-then c.before.before.before.read-code2.ensures (from_entity (index_read (flow c))) _ c.before.next2.given.1 r)
+    from-flow (flow c) n s (read-then c.read_code-flow.ensures (from_entity (index_read (flow c))) _ c.in-At-next.is r)
 
-from-attribute : (c : tie.After-known-told3) →
-    let e = entity c in Serves (flow e) (from_attribute (index_read (flow e)) (flow-read e) (entity-read c)) c.before.next3.given.0.0
+from-attribute : (c : tie.In-At-next-2) →
+    let e = entity c in Serves (flow e) (from_attribute (index_read (flow e)) (flow-read e) (entity-read c)) c.in-At-next-2.at
 from-attribute c n s r =
     let e = entity c in
-    from-entity e n s (read-then c.before.before.before.read-field.ensures.reads (from_attribute (index_read (flow e)) (flow-read e)) _ c.before.next3.given.1 r)
+    from-entity e n s (read-then c.read_field-entity.ensures.reads (from_attribute (index_read (flow e)) (flow-read e)) _ c.in-At-next-2.is r)
 
-from-value : (c : tie.After-known-told4) →
+from-value : (c : tie.In-At-next-3) →
     let a = attribute c in
-    let e = entity a in Serves (flow e) (from_value (index_read (flow e)) (flow-read e) (entity-read a) (attribute-read c)) c.before.next4.given.0.0
+    let e = entity a in Serves (flow e) (from_value (index_read (flow e)) (flow-read e) (entity-read a) (attribute-read c)) c.in-At-next-3.at
 from-value c n s r =
     let a = attribute c in
     let e = entity a in
-    from-attribute a n s (read-then c.before.before.before.read-field2.ensures.reads (from_value (index_read (flow e)) (flow-read e) (entity-read a)) _ c.before.next4.given.1 r)
+    from-attribute a n s (read-then c.read_field-attribute.ensures.reads (from_value (index_read (flow e)) (flow-read e) (entity-read a)) _ c.in-At-next-3.is r)
 
-no_index : tie.Need-returns
+no_index : tie.Need-returns-in_default
 unfolding scan
-no_index c = rw c.no-scan.ensures (read-stop c.before.before.before.read-code.ensures from_flow _ _ c.before.enum_told.given.1)
+no_index c = rw c.no_scan.ensures (read-stop c.read_code-index.ensures from_flow _ _ c.in_default.is)
 
-no_flow : tie.Need-returns-2
+no_flow : tie.Need-returns-in_default-next
 no_flow c =
-    let d = c.before.before.before.before in
-    from-flow d _ _ (rw c.no-scan2.ensures (read-stop c.before.before.before.read-code2.ensures (from_entity (index_read d)) _ _ c.before.enum-told2.given.1))
+    from-flow c.before.before.before _ _ (rw c.no_scan-in_default-next.ensures (read-stop c.read_code-flow.ensures (from_entity (index_read c.before.before.before)) _ _ c.in_default-next.is))
 
-no-entity : tie.Need-returns-3
+no-entity : tie.Need-returns-in_default-next-2
 no-entity c =
-    let d = c.before.before.before.before in
-    from-entity d _ _
-    (rw c.no-scan3.ensures (read-stop c.before.before.before.read-field.ensures.reads (from_attribute (index_read (flow d)) (flow-read d)) _ _ c.before.enum-told3.given.1))
+    from-entity c.before.before.before _ _
+    (rw c.no_scan-in_default-next-2.ensures (read-stop c.read_field-entity.ensures.reads (from_attribute (index_read (flow c.before.before.before)) (flow-read c.before.before.before)) _ _ c.in_default-next-2.is))
 
-no-attribute : tie.Need-returns-4
+no-attribute : tie.Need-returns-in_default-next-3
 no-attribute c =
-    let d = c.before.before.before.before in
-    let e = entity d in
-    from-attribute d _ _
-    (rw c.no-scan4.ensures
-    (read-stop c.before.before.before.read-field2.ensures.reads (from_value (index_read (flow e)) (flow-read e) (entity-read d)) _ _ c.before.enum-told4.given.1))
+    let e = entity c.before.before.before in
+    from-attribute c.before.before.before _ _
+    (rw c.no_scan-in_default-next-3.ensures
+    (read-stop c.read_field-attribute.ensures.reads (from_value (index_read (flow e)) (flow-read e) (entity-read c.before.before.before)) _ _ c.in_default-next-3.is))
 
-whole : tie.Need-returns-5
+whole : tie.Need-returns
 whole c =
-    let v = c.before.before.before.before.before in
-    let a = attribute v in
+    let a = attribute c.before.before.before.before.before in
     let e = entity a in
-    from-value v _ _
-    (rw (c.before.before.before.index-of-code.ensures, c.before.before.flow-of-code.ensures)
-    (read-as c.before.before.before.before.read-field3.ensures.reads (scan_read (index_read (flow e)) (flow-read e) (entity-read a) (attribute-read v))))
+    from-value c.before.before.before.before.before _ _
+    (rw (c.index_of_code.ensures, c.flow_of_code.ensures)
+    (read-as c.read_field-value.ensures.reads (scan_read (index_read (flow e)) (flow-read e) (entity-read a) (attribute-read c.before.before.before.before.before))))
 
-pub read-scan-spec : {M : Type 1} → statement M
-read-scan-spec =
+pub read_scan_spec : {M : Type 1} → statement M
+read_scan_spec =
     tie.close
     (tie.spec
     (λ c κs. search rules)
@@ -104,22 +100,22 @@ read-scan-spec =
     (λ c. search rules)
     (λ c κs. search rules)
     no_index
-    (λ c κs. read-within c.before.before.before.read-code.ensures _ c.before.next.given.1)
+    (λ c κs. read-within c.read_code-index.ensures _ c.in-At.is)
     (λ c. search rules)
     (λ c. search rules)
     (λ c κs. search rules)
     no_flow
-    (λ c κs. (read-within c.before.before.before.read-code2.ensures _ c.before.next2.given.1, omega arith))
+    (λ c κs. (read-within c.read_code-flow.ensures _ c.in-At-next.is, omega arith))
     (λ c. search rules)
     (λ c. search rules)
     (λ c κs. search rules)
     no-entity
-    (λ c κs. (read-within c.before.before.before.read-field.ensures.reads _ c.before.next3.given.1, omega arith))
+    (λ c κs. (read-within c.read_field-entity.ensures.reads _ c.in-At-next-2.is, omega arith))
     (λ c. search rules)
     (λ c. search rules)
     (λ c κs. search rules)
     no-attribute
-    (λ c κs. (read-within c.before.before.before.read-field2.ensures.reads _ c.before.next4.given.1, omega arith))
+    (λ c κs. (read-within c.read_field-attribute.ensures.reads _ c.in-At-next-3.is, omega arith))
     (λ c κs. search rules)
     (λ c κs. search rules)
     (λ c. search rules)

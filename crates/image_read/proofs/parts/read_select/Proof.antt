@@ -4,5 +4,5 @@ use Rattle.image_read.proofs.Made.{select_read}
 use Rattle.image_read.proofs.parts.read_select.Statement.{statement}
 use Rattle.image_read.proofs.parts.read_select.Tie as tie
 
-pub read-select-spec : {M : Type 1} → statement M
-read-select-spec = tie.close (tie.spec (λ c κs. search rules) (λ c. search rules) (λ c. select_read c.before.read-field.ensures.reads))
+pub read_select_spec : {M : Type 1} → statement M
+read_select_spec = tie.close (tie.spec (λ c κs. search rules) (λ c. search rules) (λ c. select_read c.read_field-field.ensures.reads))

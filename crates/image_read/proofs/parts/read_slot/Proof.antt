@@ -6,14 +6,14 @@ use Rattle.image_read.proofs.Made.{slot-stopped, slot-variable, slot-constant}
 use Rattle.image_read.proofs.parts.read_slot.Statement.{statement}
 use Rattle.image_read.proofs.parts.read_slot.Tie as tie
 
-pub read-slot-spec : {M : Type 1} → statement M
-read-slot-spec =
+pub read_slot_spec : {M : Type 1} → statement M
+read_slot_spec =
     tie.close
     (tie.spec
     (λ c κs. search rules)
     (λ c. search rules)
     (λ c. search rules)
-    (λ c. slot-stopped c.before.before.read-field.ensures.reads _ _ c.enum_told.given.1)
-    (λ c. let d = c.before.before.before in slot-variable d.before.before.read-field.ensures.reads _ d.next.given.1 c.if1.true)
-    (λ c κs. let d = c.before.before.before in (read-within d.before.before.read-field.ensures.reads _ d.next.given.1, omega arith))
-    (λ c. let d = c.before.before.before.before in slot-constant d.before.before.read-field.ensures.reads _ d.next.given.1 c.before.if1.false c.read-field2.ensures.reads))
+    (λ c. slot-stopped c.read_field-mark.ensures.reads _ _ c.in_default.is)
+    (λ c. slot-variable c.read_field-mark.ensures.reads _ c.in-At.is c.if-mark-eq0.true)
+    (λ c κs. (read-within c.read_field-mark.ensures.reads _ c.in-At.is, omega arith))
+    (λ c. slot-constant c.read_field-mark.ensures.reads _ c.in-At.is c.if-mark-eq0.false c.read_field-constant.ensures.reads))
