@@ -8,25 +8,25 @@ use Rattle.eval.proofs.check.Statement.{statement}
 use Rattle.eval.proofs.check.Tie as tie
 
 -- past the first test the plan has passed
-abbrev start : tie.After-enum-told2 → tie.Start
-start c = c.before.before.before.before.before.before
+abbrev start : tie.In_default → tie.Start
+start c = c.before.before.before.before.before
 
-passed : (c : tie.After-enum-told2) → check_of (start c).args.plan ≡ Fine
-passed c = sym c.before.before.check-invariants.ensures ∙ c.enum-told2.given.1
+passed : (c : tie.In_default) → check_of (start c).args.plan ≡ Fine
+passed c = sym c.check_invariants-plan_fault.ensures ∙ c.in_default.is
 
-plan-fault : tie.Need-returns
+plan-fault : tie.Need-returns-in-Refused
 plan-fault c =
-    let e = c.enum_told.given.1 in
-    e ∙ sym (plan-refused _ _ _ (sym c.before.before.check-invariants.ensures ∙ e))
+    let e = c.in-Refused.is in
+    e ∙ sym (plan-refused _ _ _ (sym c.check_invariants-plan_fault.ensures ∙ e))
 
-none : tie.Need-returns-2
-none c = c.refuse.ensures ∙ sym (no-scans _ _ (passed c.before.before.before) c.before.if1.true)
+none : tie.Need-returns-then-plan-eq0
+none c = c.refuse.ensures ∙ sym (no-scans _ _ (passed c.before.before.before) c.if-plan-eq0.true)
 
-tables-fault : tie.Need-returns-3
-tables-fault c = c.check-tables.ensures ∙ sym (tables-answer _ _ (passed c.before.before.before) c.before.if1.false)
+tables-fault : tie.Need-returns
+tables-fault c = c.check_tables.ensures ∙ sym (tables-answer _ _ (passed c.before.before.before) c.if-plan-eq0.false)
 
-pub check-spec : {M : Type 1} → statement M
-check-spec =
+pub check_spec : {M : Type 1} → statement M
+check_spec =
     tie.close
     (tie.spec
     (λ c κs. search rules)

@@ -10,32 +10,30 @@ use Rattle.eval.proofs.evaluate.Tie as tie
 
 -- a plan's arrays are as long as their capacities
 many_scans : (c : tie.Start) → length c.args.plan.scans ≡ max_scans
-many_scans c = simp length-map at c.well-formed.0.1.1.0.1.0.1
+many_scans c = simp length-map at c.well_formed.0.1.1.0.1.0.1
 
 many_selects : (c : tie.Start) → length c.args.plan.select ≡ max_selects
-many_selects c = simp length-map at c.well-formed.0.1.1.1.1.1.1.0.1.0.1
+many_selects c = simp length-map at c.well_formed.0.1.1.1.1.1.1.0.1.0.1
 
-refuses : tie.Need-returns
+refuses : tie.Need-returns-in-Refused
 refuses c =
-    let e = c.enum_told.given.1 in
-    refused-answer _ _ _ _ _ _ e (sym c.before.before.check.ensures ∙ e)
+    let e = c.in-Refused.is in
+    refused-answer _ _ _ _ _ _ e (sym c.check-verdict.ensures ∙ e)
 
 -- past the test nothing is refused
-fine : (c : tie.After-enum-told2) → c.before.before.check.result ≡ Fine
-fine c = c.enum-told2.given.1
+fine : (c : tie.In_default) → c.check-verdict.result ≡ Fine
+fine c = c.in_default.is
 
-ready : tie.Need-evaluate-checked-requires
+ready : tie.Need-evaluate_checked-shown-requires
 ready c κs =
-    let start = c.before.before.before.before.before.before.before.before in
-    fine-evaluable _ _ _ _ (sym c.before.before.before.check.ensures ∙ fine c.before) (many_scans start) (many_selects start)
+    fine-evaluable _ _ _ _ (sym c.check-verdict.ensures ∙ fine c.before) (many_scans c.before.before.before.before.before.before.before) (many_selects c.before.before.before.before.before.before.before)
 
-shown : tie.Need-returns-2
+shown : tie.Need-returns
 shown c =
-    let told = c.before.before.before.before in
-    shown-answer _ _ _ _ _ _ _ (sym told.before.before.check.ensures ∙ fine told) c.before.before.evaluate-checked.ensures
+    shown-answer _ _ _ _ _ _ _ (sym c.check-verdict.ensures ∙ fine c.before.before.before.before) c.evaluate_checked-shown.ensures
 
-pub evaluate-spec : {M : Type 1} → statement M
-evaluate-spec =
+pub evaluate_spec : {M : Type 1} → statement M
+evaluate_spec =
     tie.close
     (tie.spec
     (λ c κs. search rules)

@@ -6,17 +6,17 @@ use borrow.Author.Rules.{rules}
 use Rattle.plan_text.proofs.fmt.Statement.{statement}
 use Rattle.plan_text.proofs.fmt.Tie as tie
 
-returns : tie.Need-returns
-returns c = let a = c.before.before.before.before.before.before.before.args in (c.before.before.measure.ensures, after-refused a.plan a.names.now a.ends.now a.out.now _ ((sym (fault-is _ _ _ _ _ c.before.before.measure.ensures)) ∙ c.enum_told.given.1))
+returns : tie.Need-returns-in-Refused
+returns c = let a = c.args in (c.measure-measured.ensures, after-refused a.plan a.names.now a.ends.now a.out.now _ ((sym (fault-is _ _ _ _ _ c.measure-measured.ensures)) ∙ c.in-Refused.is))
 
-write-plan-requires : tie.Need-write-plan-requires
-write-plan-requires c κs = let a = c.before.before.before.before.before.before.before.before.args in names-fine _ _ _ (text-fits a.plan a.names.now a.ends.now _ ((sym (fault-is _ _ _ _ _ c.before.before.before.measure.ensures)) ∙ c.before.enum-told2.given.1)).0
+write-plan-requires : tie.Need-write_plan-requires
+write-plan-requires c κs = let a = c.args in names-fine _ _ _ (text-fits a.plan a.names.now a.ends.now _ ((sym (fault-is _ _ _ _ _ c.measure-measured.ensures)) ∙ c.in_default.is)).0
 
-returns-2 : tie.Need-returns-2
-returns-2 c = let a = c.before.before.before.before.before.before.before.before.before.before.before.args in (c.before.before.before.before.before.before.measure.ensures, after-fits a.plan a.names.now a.ends.now a.out.now ((sym (fault-is _ _ _ _ _ c.before.before.before.before.before.before.measure.ensures)) ∙ c.before.before.before.before.enum-told2.given.1) _ _ c.before.before.write-plan.ensures)
+returns-2 : tie.Need-returns
+returns-2 c = let a = c.args in (c.measure-measured.ensures, after-fits a.plan a.names.now a.ends.now a.out.now ((sym (fault-is _ _ _ _ _ c.measure-measured.ensures)) ∙ c.in_default.is) _ _ c.write_plan.ensures)
 
-pub fmt-spec : {M : Type 1} → statement M
-fmt-spec =
+pub fmt_spec : {M : Type 1} → statement M
+fmt_spec =
     tie.close
     (tie.spec
     (λ c κs. search rules)

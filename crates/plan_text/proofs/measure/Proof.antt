@@ -7,20 +7,20 @@ use borrow.Author.Rules.{rules}
 use Rattle.plan_text.proofs.measure.Statement.{statement}
 use Rattle.plan_text.proofs.measure.Tie as tie
 
-returns : tie.Need-returns
-returns c = let a = c.before.before.before.before.before.before.args in measured-refused a.plan a.names.now a.ends.now _ _ _ c.before.before.check-names.ensures c.enum_told.given.1
+returns : tie.Need-returns-in-Refused
+returns c = let a = c.args in measured-refused a.plan a.names.now a.ends.now _ _ _ c.check_names-checked.ensures c.in-Refused.is
 
-write-plan-requires : tie.Need-write-plan-requires
-write-plan-requires c κs = names-fine _ _ _ (sym c.before.before.before.check-names.ensures ∙ c.before.enum-told2.given.1)
+write-plan-requires : tie.Need-write_plan-length-requires
+write-plan-requires c κs = names-fine _ _ _ (sym c.check_names-checked.ensures ∙ c.in_default.is)
 
-returns-2 : tie.Need-returns-2
-returns-2 c = let a = c.before.before.before.before.before.before.before.before.before.before.before.args in measured-short a.plan a.names.now a.ends.now _ (sym c.before.before.before.before.before.before.before.check-names.ensures ∙ c.before.before.before.before.before.enum-told2.given.1) _ _ c.before.before.before.write-plan.ensures _ c.before.if1.true c.refuse.ensures
+returns-2 : tie.Need-returns-then-out-length
+returns-2 c = let a = c.args in measured-short a.plan a.names.now a.ends.now _ (sym c.check_names-checked.ensures ∙ c.in_default.is) _ _ c.write_plan-length.ensures _ c.if-out-length.true c.refuse-too_short.ensures
 
-returns-3 : tie.Need-returns-3
-returns-3 c = let a = c.before.before.before.before.before.before.before.before.before.before.args in measured-fits a.plan a.names.now a.ends.now _ (sym c.before.before.before.before.before.before.check-names.ensures ∙ c.before.before.before.before.enum-told2.given.1) _ _ c.before.before.write-plan.ensures c.if1.false (omega arith)
+returns-3 : tie.Need-returns
+returns-3 c = let a = c.args in measured-fits a.plan a.names.now a.ends.now _ (sym c.check_names-checked.ensures ∙ c.in_default.is) _ _ c.write_plan-length.ensures c.if-out-length.false (omega arith)
 
-pub measure-spec : {M : Type 1} → statement M
-measure-spec =
+pub measure_spec : {M : Type 1} → statement M
+measure_spec =
     tie.close
     (tie.spec
     (λ c κs. search rules)

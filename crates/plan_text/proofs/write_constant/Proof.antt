@@ -8,24 +8,16 @@ use Rattle.plan_text.proofs.write_constant.Tie as tie
 line : tie.Need-returns
 unfolding constant_line
 line c =
-    let s5 = c.before.before in
-    let s4 = s5.before.before.before.before.before in
-    let s3 = s4.before.before.before.before in
-    let s2 = s3.before.before.before.before.before in
-    let s1 = s2.before.before.before.before in
-    written_then (written_then (written_then (written_then s1.write.ensures s2.write-decimal.ensures) s3.write2.ensures) s4.write-decimal2.ensures) s5.write3.ensures
+    written_then (written_then (written_then (written_then c.write-at.ensures c.write_decimal-at.ensures) c.write-at-2.ensures) c.write_decimal-at-2.ensures) c.write.ensures
 
-pub write-constant-spec : {M : Type 1} → statement M
-write-constant-spec =
+pub write_constant_spec : {M : Type 1} → statement M
+write_constant_spec =
     tie.close
     (tie.spec
-    (λ c. search rules)
     (λ c κs. search rules)
     (λ c κs. search rules)
-    (λ c. search rules)
     (λ c κs. search rules)
     (λ c κs. search rules)
-    (λ c. search rules)
     (λ c κs. search rules)
     (λ c. written-length (line c))
     line)

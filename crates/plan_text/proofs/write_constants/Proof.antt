@@ -12,25 +12,25 @@ use Rattle.plan_text.proofs.Lines.{constants-next}
 use Rattle.plan_text.proofs.write_constants.Statement.{statement}
 use Rattle.plan_text.proofs.write_constants.Tie as tie
 
-abbrev Inv : tie.invariant-loop
+abbrev Inv : tie.invariant-loop-i_slot
 Inv n start out₀ slots at₀ i₀ out at i = (i ≤ n) × Written (constant_lines (take i slots) 0) start out₀ at out
 
-abbrev μ : tie.decreases-loop
+abbrev μ : tie.decreases-loop-i_slot
 μ n start out₀ slots at₀ i₀ out at i = n - i
 
-none : tie.Need-loop-init Inv μ
+none : tie.Need-loop-i_slot-init Inv μ
 unfolding constant_lines
 none c = (omega arith, written_none (omega arith) (omega arith))
 
-again : tie.Need-loop-preserved Inv μ
+again : tie.Need-loop-i_slot-preserved Inv μ
 again c =
-    let a = c.before.before.before.before.before.before.before.before.args in
-    let i = c.before.before.before.before.before.before.loop.i-slot in
-    let h : length a.t1 ≡ max_slots = search rules in
-    (omega arith, rw (constants-next a.t1 i (omega arith)) (written_then c.before.before.before.before.before.before.loop.invariant.1 c.before.before.write-definition.ensures))
+    let a = c.args in
+    let i = c.loop-i_slot.i_slot in
+    let h : length a.slots ≡ max_slots = search rules in
+    (omega arith, rw (constants-next a.slots i (omega arith)) (written_then c.loop-i_slot.invariant.1 c.write_definition-at.ensures))
 
-pub write-constants-spec : {M : Type 1} → statement M
-write-constants-spec =
+pub write_constants_spec : {M : Type 1} → statement M
+write_constants_spec =
     tie.close
     (tie.spec
     Inv
@@ -42,5 +42,5 @@ write-constants-spec =
     (λ c. search rules)
     (λ c. search rules)
     again
-    (λ c. written-length c.before.loop.invariant.1)
-    (λ c. let e : c.before.loop.i-slot ≡ c.before.before.before.args.slot-count = omega arith in rw (← e) c.before.loop.invariant.1))
+    (λ c. written-length c.loop-i_slot.invariant.1)
+    (λ c. let e : c.loop-i_slot.i_slot ≡ c.args.slot_count = omega arith in rw (← e) c.loop-i_slot.invariant.1))

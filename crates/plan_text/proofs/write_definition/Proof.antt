@@ -6,12 +6,12 @@ use Rattle.plan_text.specs.Text.{constant_line}
 use Rattle.plan_text.proofs.write_definition.Statement.{statement}
 use Rattle.plan_text.proofs.write_definition.Tie as tie
 
-variable : tie.Need-returns
+variable : tie.Need-returns-in-Variable
 unfolding constant_line
-variable c = rw c.enum_told.given.1 (written_none (omega arith) (omega arith))
+variable c = rw c.in-Variable.is (written_none (omega arith) (omega arith))
 
-pub write-definition-spec : {M : Type 1} → statement M
-write-definition-spec =
+pub write_definition_spec : {M : Type 1} → statement M
+write_definition_spec =
     tie.close
     (tie.spec
     (λ c. search rules)
@@ -19,4 +19,4 @@ write-definition-spec =
     (λ c κs. search rules)
     variable
     (λ c. search rules)
-    (λ c. rw c.before.before.before.before.before.definition.given.1 c.before.before.write-constant.ensures))
+    (λ c. rw c.in-Constant.is c.write_constant.ensures))

@@ -8,20 +8,15 @@ use Rattle.plan_text.proofs.write_plan.Tie as tie
 text : tie.Need-returns
 unfolding text_of
 text c =
-    let s4 = c.before.before in
-    let s3 = s4.before.before.before.before in
-    let s2 = s3.before.before.before.before.before in
-    let s1 = s2.before.before.before.before in
-    let one_each = s1.before.before.before.before.before.before.before.before.requires.1 in
-    rw (← one_each) (written_then (written_then (written_then (rw (← one_each) at s1.write-constants.ensures) s2.write-scans.ensures) s3.write.ensures) s4.write-selects.ensures)
+    let one_each = c.requires.1 in
+    rw (← one_each) (written_then (written_then (written_then (rw (← one_each) at c.write_constants-at.ensures) c.write_scans-at.ensures) c.write-at.ensures) c.write_selects.ensures)
 
-pub write-plan-spec : {M : Type 1} → statement M
-write-plan-spec =
+pub write_plan_spec : {M : Type 1} → statement M
+write_plan_spec =
     tie.close
     (tie.spec
     (λ c κs. search rules)
     (λ c κs. search rules)
-    (λ c. search rules)
     (λ c κs. search rules)
     (λ c κs. search rules)
     (λ c. search rules)

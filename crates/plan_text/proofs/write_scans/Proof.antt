@@ -12,25 +12,25 @@ use Rattle.plan_text.proofs.Lines.{scans-next}
 use Rattle.plan_text.proofs.write_scans.Statement.{statement}
 use Rattle.plan_text.proofs.write_scans.Tie as tie
 
-abbrev Inv : tie.invariant-loop
+abbrev Inv : tie.invariant-loop-i_scan
 Inv n slots names ends start out₀ scans at₀ i₀ out at i = (i ≤ n) × Written (scan_lines (take (length ends) slots) names ends (take i scans)) start out₀ at out
 
-abbrev μ : tie.decreases-loop
+abbrev μ : tie.decreases-loop-i_scan
 μ n slots names ends start out₀ scans at₀ i₀ out at i = n - i
 
-none : tie.Need-loop-init Inv μ
+none : tie.Need-loop-i_scan-init Inv μ
 unfolding scan_lines
 none c = (omega arith, written_none (omega arith) (omega arith))
 
-again : tie.Need-loop-preserved Inv μ
+again : tie.Need-loop-i_scan-preserved Inv μ
 again c =
-    let a = c.before.before.before.before.before.before.before.before.before.before.args in
-    let i = c.before.before.before.before.before.before.loop.i-scan in
-    let h : length a.t1 ≡ max_scans = search rules in
-    (omega arith, rw (scans-next _ _ _ a.t1 i (omega arith)) (written_then c.before.before.before.before.before.before.loop.invariant.1 c.before.before.write-scan.ensures))
+    let a = c.args in
+    let i = c.loop-i_scan.i_scan in
+    let h : length a.scans ≡ max_scans = search rules in
+    (omega arith, rw (scans-next _ _ _ a.scans i (omega arith)) (written_then c.loop-i_scan.invariant.1 c.write_scan-at.ensures))
 
-pub write-scans-spec : {M : Type 1} → statement M
-write-scans-spec =
+pub write_scans_spec : {M : Type 1} → statement M
+write_scans_spec =
     tie.close
     (tie.spec
     Inv
@@ -42,5 +42,5 @@ write-scans-spec =
     (λ c. search rules)
     (λ c. search rules)
     again
-    (λ c. written-length c.before.loop.invariant.1)
-    (λ c. let e : c.before.loop.i-scan ≡ c.before.before.before.before.before.args.scan-count = omega arith in rw (← e) c.before.loop.invariant.1))
+    (λ c. written-length c.loop-i_scan.invariant.1)
+    (λ c. let e : c.loop-i_scan.i_scan ≡ c.args.scan_count = omega arith in rw (← e) c.loop-i_scan.invariant.1))

@@ -6,12 +6,11 @@ use Rattle.plan_text.proofs.Lines.{separator-past}
 use Rattle.plan_text.proofs.write_separator.Statement.{statement}
 use Rattle.plan_text.proofs.write_separator.Tie as tie
 
-pub write-separator-spec : {M : Type 1} → statement M
-write-separator-spec =
+pub write_separator_spec : {M : Type 1} → statement M
+write_separator_spec =
     tie.close
     (tie.spec
-    (λ c. rw c.if1.true (written_none (omega arith) (omega arith)))
-    (λ c. search rules)
+    (λ c. rw c.if-i-eq0.true (written_none (omega arith) (omega arith)))
     (λ c κs. search rules)
     (λ c. search rules)
-    (λ c. rw (separator-past _ c.before.before.before.before.before.if1.false) c.before.before.write.ensures))
+    (λ c. rw (separator-past _ c.if-i-eq0.false) c.write.ensures))

@@ -4,7 +4,7 @@ use Rattle.search.proofs.arrange.Statement.{statement}
 use Rattle.search.proofs.arrange.Tie as tie
 
 returns : tie.Need-returns
-returns c = rw c.before.arrange-items.ensures
+returns c = rw c.arrange_items-items.ensures
 
-pub arrange-spec : {M : Type 1} → statement M
-arrange-spec = tie.close (tie.spec (λ c κs. search rules) returns)
+pub arrange_spec : {M : Type 1} → statement M
+arrange_spec = tie.close (tie.spec (λ c κs. search rules) returns)

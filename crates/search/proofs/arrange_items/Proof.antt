@@ -7,40 +7,38 @@ use Rattle.search.proofs.Filled.{filled, filled-start, number-below, filled_more
 use Rattle.search.proofs.arrange_items.Statement.{statement}
 use Rattle.search.proofs.arrange_items.Tie as tie
 
-abbrev Inv : tie.invariant-loop
+abbrev Inv : tie.invariant-loop-i
 Inv count given order items₀ i₀ items i = (i ≤ count) × (items ≡ filled count given order i)
 
-abbrev μ : tie.decreases-loop
+abbrev μ : tie.decreases-loop-i
 μ count given order items₀ i₀ items i = count - i
 
-start : tie.Need-loop-init Inv μ
-start c = (omega arith, filled-start _ c.args.t1 _ c.requires)
+start : tie.Need-loop-i-init Inv μ
+start c = (omega arith, filled-start _ c.args.order _ c.requires)
 
-again : tie.Need-loop-preserved Inv μ
+again : tie.Need-loop-i-preserved Inv μ
 again c =
-    let l = c.before.before.loop in
-    let a = c.before.before.before in
-    (omega arith, rw l.invariant.1 (filled_more _ a.args.t1 _ a.requires l.i c.before.loop-test.true))
+    let l = c.loop-i in
+    (omega arith, rw l.invariant.1 (filled_more _ c.args.order _ c.requires l.i c.loop-i-test.true))
 
 done : tie.Need-returns Inv μ
 done c =
-    let l = c.before.loop in
-    let e : l.i ≡ c.before.before.args.count = omega arith in
+    let l = c.loop-i in
+    let e : l.i ≡ c.args.count = omega arith in
     rw e at l.invariant.1
 
 -- the statement's number is below the count
 times : tie.Need-overflow-mul-statement Inv μ
 times c =
     let a = c.before.before in
-    record { fits = omega (arith, number-below _ a.args.t1 _ a.requires c.before.loop.i c.loop-test.true, a.requires.few) }
+    record { fits = omega (arith, number-below _ a.args.order _ a.requires c.loop-i.i c.loop-i-test.true, a.requires.few) }
 
-reads : tie.Need-array-copy-out-statement Inv μ
+reads : tie.Need-bounds-given-number Inv μ
 reads c =
-    let a = c.before.before in
-    omega (arith, number-below _ a.args.t1 _ a.requires c.before.loop.i c.loop-test.true, a.requires.few)
+    omega (arith, number-below _ c.args.order _ c.requires c.loop-i.i c.loop-i-test.true, c.requires.few)
 
-pub arrange-items-spec : {M : Type 1} → statement M
-arrange-items-spec =
+pub arrange_items_spec : {M : Type 1} → statement M
+arrange_items_spec =
     tie.close
     (tie.spec
     Inv

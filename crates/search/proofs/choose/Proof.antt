@@ -4,7 +4,7 @@ use Rattle.search.proofs.choose.Statement.{statement}
 use Rattle.search.proofs.choose.Tie as tie
 
 returns : tie.Need-returns
-returns c = rw c.before.before.plan-in.ensures
+returns c = rw c.plan_in-planned.ensures
 
 pub choose_spec : {M : Type 1} → statement M
 choose_spec = tie.close (tie.spec (λ c κs. search rules) returns)

@@ -10,28 +10,28 @@ use Rattle.search.proofs.Filled.{numbers-start, numbers_more}
 use Rattle.search.proofs.first_order.Statement.{statement}
 use Rattle.search.proofs.first_order.Tie as tie
 
-abbrev Inv : tie.invariant-loop
+abbrev Inv : tie.invariant-loop-i
 Inv count order₀ i₀ order i = (i ≤ count) × (order ≡ padded 0 max_searched (up_to i))
 
-abbrev μ : tie.decreases-loop
+abbrev μ : tie.decreases-loop-i
 μ count order₀ i₀ order i = count - i
 
-start : tie.Need-loop-init Inv μ
+start : tie.Need-loop-i-init Inv μ
 start c = (omega arith, numbers-start)
 
-again : tie.Need-loop-preserved Inv μ
+again : tie.Need-loop-i-preserved Inv μ
 again c =
-    let l = c.before.loop in
-    (omega arith, rw l.invariant.1 (numbers_more l.i (omega (arith, c.before.before.requires, c.loop-test.true))))
+    let l = c.loop-i in
+    (omega arith, rw l.invariant.1 (numbers_more l.i (omega (arith, c.requires, c.loop-i-test.true))))
 
 done : tie.Need-returns Inv μ
 done c =
-    let l = c.before.loop in
-    let e : l.i ≡ c.before.before.args.count = omega arith in
+    let l = c.loop-i in
+    let e : l.i ≡ c.args.count = omega arith in
     rw e at l.invariant.1
 
-pub first-order-spec : {M : Type 1} → statement M
-first-order-spec =
+pub first_order_spec : {M : Type 1} → statement M
+first_order_spec =
     tie.close
     (tie.spec
     Inv

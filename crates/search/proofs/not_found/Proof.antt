@@ -4,7 +4,7 @@ use Rattle.search.proofs.not_found.Statement.{statement}
 use Rattle.search.proofs.not_found.Tie as tie
 
 returns : tie.Need-returns
-returns c = rw c.empty.ensures
+returns c = rw c.empty-plan.ensures
 
-pub not-found-spec : {M : Type 1} → statement M
-not-found-spec = tie.close (tie.spec (λ c κs. search rules) returns)
+pub not_found_spec : {M : Type 1} → statement M
+not_found_spec = tie.close (tie.spec (λ c κs. search rules) returns)

@@ -6,7 +6,7 @@ use Rattle.search.proofs.plan_in.Statement.{statement}
 use Rattle.search.proofs.plan_in.Tie as tie
 
 returns : tie.Need-returns
-returns c = c.plan.ensures ∙ ap plan_of c.before.arrange.ensures
+returns c = c.plan.ensures ∙ ap plan_of c.arrange-arranged.ensures
 
-pub plan-in-spec : {M : Type 1} → statement M
-plan-in-spec = tie.close (tie.spec (λ c κs. search rules) (λ c κs. search rules) returns)
+pub plan_in_spec : {M : Type 1} → statement M
+plan_in_spec = tie.close (tie.spec (λ c κs. search rules) (λ c κs. search rules) returns)

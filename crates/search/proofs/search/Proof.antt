@@ -14,53 +14,46 @@ use Rattle.search.proofs.search.Statement.{statement}
 use Rattle.search.proofs.search.Tie as tie
 
 sized : (c : tie.Start) → length c.args.query.where_statements.items ≡ max_statements
-sized c = simp length-map at c.well-formed.0.1.1.1.0.1.1.0.1.0.1
+sized c = simp length-map at c.well_formed.0.1.1.1.0.1.1.0.1.0.1
 
 selects_sized : (c : tie.Start) → length c.args.query.select.items ≡ max_selects
-selects_sized c = simp length-map at c.well-formed.0.1.1.1.1.0.1.1.0.1.0.1
+selects_sized c = simp length-map at c.well_formed.0.1.1.1.1.0.1.1.0.1.0.1
 
-refused : tie.Need-returns
+refused : tie.Need-returns-in-Refused
 refused c =
-    let k = c.before.before.before in
-    let e = sym k.check-query.ensures ∙ c.before.enum_told.given.1 in
-    c.not_found.ensures ∙ ap not_found c.before.enum_told.given.1 ∙ sym (search-refused _ _ e)
+    let e = sym c.check_query-checked.ensures ∙ c.in-Refused.is in
+    c.not_found.ensures ∙ ap not_found c.in-Refused.is ∙ sym (search-refused _ _ e)
 
 -- none of 10 to 15
-fine : (c : tie.After-enum-told2) → query_fault c.before.before.before.args.query ≡ Fine
-fine c = sym c.before.before.check-query.ensures ∙ c.enum-told2.given.1
+fine : (c : tie.In_default) → query_fault c.args.query ≡ Fine
+fine c = sym c.check_query-checked.ensures ∙ c.in_default.is
 
-many : tie.Need-returns-2
+many : tie.Need-returns-then-count-gt-MAX_SEARCHED
 many c =
-    let d = c.before.before in
-    c.not-found2.ensures ∙ ap not_found c.before.refuse.ensures ∙ sym (search-many _ (fine d.before) d.if1.true)
+    c.not_found-then-count-gt-MAX_SEARCHED.ensures ∙ ap not_found c.refuse-verdict.ensures ∙ sym (search-many _ (fine c.before.before.before) c.if-count-gt-MAX_SEARCHED.true)
 
-able : (c : tie.Else1) → Searchable c.before.before.before.before.args.query
+able : (c : tie.Else-count-gt-MAX_SEARCHED) → Searchable c.args.query
 able c =
-    let a = c.before.before.before.before in
-    record { clear = record { fine = fine c.before; statements_sized = sized a; selects_sized = selects_sized a }; few = c.if1.false }
+    record { clear = record { fine = fine c.before; statements_sized = sized c.before.before.before; selects_sized = selects_sized c.before.before.before }; few = c.if-count-gt-MAX_SEARCHED.false }
 
-first : (c : tie.Else1) →
-    let q = c.before.before.before.before.args.query in search_of q ≡ first_least q (candidates q.variable_count (statements_of q) (orders q.where_statements.count))
-first c = search-first _ (fine c.before) c.if1.false
+first : (c : tie.Else-count-gt-MAX_SEARCHED) →
+    let q = c.args.query in search_of q ≡ first_least q (candidates q.variable_count (statements_of q) (orders q.where_statements.count))
+first c = search-first _ (fine c.before) c.if-count-gt-MAX_SEARCHED.false
 
-unsound : tie.Need-returns-3
+unsound : tie.Need-returns-then-not-best
 unsound c =
-    let d = c.before.before in
-    let w = d.before.before in
-    c.not-found3.ensures ∙ ap not_found c.before.refuse2.ensures ∙ sym (none_found _ (able w.before) _ w.weigh-orders.ensures (not-true _ d.if2.true)) ∙ sym (first w.before)
+    c.not_found-then-not-best.ensures ∙ ap not_found c.refuse-verdict-then-not-best.ensures ∙ sym (none_found _ (able c.before.before.before.before.before) _ c.weigh_orders-best.ensures (not-true _ c.if-not-best.true)) ∙ sym (first c.before.before.before.before.before)
 
 chooses : tie.Need-choose-requires
 chooses c κs =
-    let w = c.before.before in
-    (some-found _ (able w.before) _ w.weigh-orders.ensures (not-false _ c.if2.false)).0
+    (some-found _ (able c.before.before.before) _ c.weigh_orders-best.ensures (not-false _ c.if-not-best.false)).0
 
-found : tie.Need-returns-4
+found : tie.Need-returns
 found c =
-    let w = c.before.before.before in
-    c.choose.ensures ∙ (some-found _ (able w.before) _ w.weigh-orders.ensures (not-false _ c.before.if2.false)).1 ∙ sym (first w.before)
+    c.choose.ensures ∙ (some-found _ (able c.before.before.before.before) _ c.weigh_orders-best.ensures (not-false _ c.if-not-best.false)).1 ∙ sym (first c.before.before.before.before)
 
-pub search-spec : {M : Type 1} → statement M
-search-spec =
+pub search_spec : {M : Type 1} → statement M
+search_spec =
     tie.close
     (tie.spec
     (λ c κs. search rules)

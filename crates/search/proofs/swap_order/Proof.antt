@@ -9,8 +9,8 @@ returns : tie.Need-returns
 unfolding swapped
 returns c = refl
 
-pub swap-order-spec : {M : Type 1} → statement M
-swap-order-spec =
+pub swap_order_spec : {M : Type 1} → statement M
+swap_order_spec =
     tie.close
     (tie.spec
     (λ c. search rules)

@@ -4,26 +4,20 @@ use Rattle.search.proofs.Fresh.{order-passed, order-asks, order-weighs}
 use Rattle.search.proofs.weigh_order.Statement.{statement}
 use Rattle.search.proofs.weigh_order.Tie as tie
 
-passed : tie.Need-returns
+passed : tie.Need-returns-in-Refused
 passed c =
-    let p = c.before.before in
-    let a = p.before in
-    order-passed a.args.query a.requires.0 a.args.order a.requires.1 _ p.plan-in.ensures _ c.enum_told.given.1 _
+    order-passed c.args.query c.requires.0 c.args.order c.requires.1 _ c.plan_in-planned.ensures _ c.in-Refused.is _
 
-asks : tie.Need-weigh-plans-requires
+asks : tie.Need-weigh_plans-requires
 asks c κs =
-    let p = c.before.before.before.before in
-    let a = p.before in
-    order-asks a.args.query a.requires.0 a.args.order a.requires.1 _ p.plan-in.ensures c.before.before.enum-told2.given.1
+    order-asks c.args.query c.requires.0 c.args.order c.requires.1 _ c.plan_in-planned.ensures c.in_default.is
 
-weighs : tie.Need-returns-2
+weighs : tie.Need-returns
 weighs c =
-    let p = c.before.before.before.before.before in
-    let a = p.before in
-    order-weighs a.args.query a.requires.0 a.args.order a.requires.1 _ p.plan-in.ensures c.before.before.before.enum-told2.given.1 _ _ c.weigh-plans.ensures
+    order-weighs c.args.query c.requires.0 c.args.order c.requires.1 _ c.plan_in-planned.ensures c.in_default.is _ _ c.weigh_plans.ensures
 
-pub weigh-order-spec : {M : Type 1} → statement M
-weigh-order-spec =
+pub weigh_order_spec : {M : Type 1} → statement M
+weigh_order_spec =
     tie.close
     (tie.spec
     (λ c κs. search rules)

@@ -5,18 +5,16 @@ use borrow.Author.Rules.{rules}
 use Rattle.tables_answer.proofs.answer.Statement.{statement}
 use Rattle.tables_answer.proofs.answer.Tie as tie
 
-returns : tie.Need-returns
+returns : tie.Need-returns-then-count-eq0
 returns c =
-    let test = c.before.before.before.before in
-    outside-answered test.before.before.read-heap.ensures test.if1.true c.before.before.write-outside.ensures
+    outside-answered c.read_heap-count.ensures c.if-count-eq0.true c.write_outside.ensures
 
-returns-2 : tie.Need-returns-2
+returns-2 : tie.Need-returns
 returns-2 c =
-    let test = c.before.before.before.before.before.before in
-    heap-answered test.before.before.read-heap.ensures (omega arith) c.before.before.answer-heap.ensures
+    heap-answered c.read_heap-count.ensures (omega arith) c.answer_heap.ensures
 
-pub answer-spec : {M : Type 1} → statement M
-answer-spec =
+pub answer_spec : {M : Type 1} → statement M
+answer_spec =
     tie.close
     (tie.spec
     (λ c. search rules)

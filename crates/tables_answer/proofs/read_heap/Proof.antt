@@ -5,26 +5,23 @@ use borrow.Author.Rules.{rules}
 use Rattle.tables_answer.proofs.read_heap.Statement.{statement}
 use Rattle.tables_answer.proofs.read_heap.Tie as tie
 
-returns : tie.Need-returns
-returns c = too_long _ c.if1.true
+returns : tie.Need-returns-then-text-ge-TEXT_BYTES
+returns c = too_long _ c.if-text-ge-TEXT_BYTES.true
 
-returns-2 : tie.Need-returns-2
+returns-2 : tie.Need-returns-then-read-eq0
 returns-2 c =
-    let read = c.before.before.before.before in
-    no-numbers _ _ read.before.before.if1.false read.before.before.before.before.before.requires read.read-words.ensures.0 read.read-words.ensures.1 c.if2.true
+    no-numbers _ _ c.if-text-ge-TEXT_BYTES.false c.requires c.read_words-read.ensures.0 c.read_words-read.ensures.1 c.if-read-eq0.true
 
-returns-3 : tie.Need-returns-3
+returns-3 : tie.Need-returns-then-words-read
 returns-3 c =
-    let read = c.before.before.before.before.before.before.before in
-    no-heap _ _ read.before.before.if1.false read.before.before.before.before.before.requires read.read-words.ensures.0 read.read-words.ensures.1 c.if3.true
+    no-heap _ _ c.if-text-ge-TEXT_BYTES.false c.requires c.read_words-read.ensures.0 c.read_words-read.ensures.1 c.if-words-read.true
 
-returns-4 : tie.Need-returns-4
+returns-4 : tie.Need-returns
 returns-4 c =
-    let read = c.before.before.before.before.before.before.before in
-    reads-heap _ _ read.before.before.if1.false read.before.before.before.before.before.requires read.read-words.ensures.0 read.read-words.ensures.1 (omega arith) c.if3.false
+    reads-heap _ _ c.if-text-ge-TEXT_BYTES.false c.requires c.read_words-read.ensures.0 c.read_words-read.ensures.1 (omega arith) c.if-words-read.false
 
-pub read-heap-spec : {M : Type 1} → statement M
-read-heap-spec =
+pub read_heap_spec : {M : Type 1} → statement M
+read_heap_spec =
     tie.close
     (tie.spec
     returns

@@ -8,17 +8,13 @@ use Rattle.tables_answer.proofs.write_part.Tie as tie
 
 returns : tie.Need-returns
 returns c =
-    let rows = c.before.before in
-    let line = rows.before.before.before.before in
-    let count = line.before.before.before.before.before in
-    part-written _ (written_then (written_then count.write-decimal.ensures line.write.ensures) rows.write-rows.ensures) (omega arith) (λ i. omega (arith, count.before.before.before.shared-slice-known.given i))
+    part-written _ (written_then (written_then c.write_decimal-at.ensures c.write-at.ensures) c.write_rows.ensures) (omega arith) (λ i. omega (arith, c.shared_slice_known-1.given i))
 
-pub write-part-spec : {M : Type 1} → statement M
-write-part-spec =
+pub write_part_spec : {M : Type 1} → statement M
+write_part_spec =
     tie.close
     (tie.spec
     (λ c κs. search rules)
-    (λ c. search rules)
     (λ c κs. search rules)
     (λ c κs. search rules)
     (λ c. search rules)

@@ -14,22 +14,18 @@ use Rattle.tables_answer.proofs.write_tables.Tie as tie
 returns : tie.Need-returns
 unfolding table_parts
 returns c =
-    let eavt = c.before.before in
-    let avet = eavt.before.before.before.before.before in
-    let aevt = avet.before.before.before.before.before in
-    let start = aevt.before.before.before.before.before.before.before in
-    let n = start.args.count * words in
-    let a = aevt.write-part.ensures in
-    let b = avet.write-part2.ensures in
-    let e = eavt.write-part3.ensures in
-    let few : n ≤ heap_words = start.requires.0 in
-    let x = length-take-le n start.args.aevt.now (omega (arith, start.requires.1.0)) in
-    let y = length-take-le n start.args.avet.now (omega (arith, start.requires.1.1.0)) in
-    let z = length-take-le n start.args.eavt.now (omega (arith, start.requires.1.1.1)) in
+    let n = c.args.count * words in
+    let a = c.write_part-at.ensures in
+    let b = c.write_part-at-2.ensures in
+    let e = c.write_part.ensures in
+    let few : n ≤ heap_words = c.requires.0 in
+    let x = length-take-le n c.args.aevt.now (omega (arith, c.requires.1.0)) in
+    let y = length-take-le n c.args.avet.now (omega (arith, c.requires.1.1.0)) in
+    let z = length-take-le n c.args.eavt.now (omega (arith, c.requires.1.1.1)) in
     (written_then (written_then a.0 b.0) e.0, omega (arith, a.1, b.1, e.1, few, x, y, z))
 
-pub write-tables-spec : {M : Type 1} → statement M
-write-tables-spec =
+pub write_tables_spec : {M : Type 1} → statement M
+write_tables_spec =
     tie.close
     (tie.spec
     (λ c. search rules)

@@ -19,13 +19,13 @@ use Rattle.eval.proofs.rows.show.Statement.{statement}
 use Rattle.eval.proofs.rows.show.Tie as tie
 
 -- iters₀ and slots₀ are those after the visits that are passed over
-abbrev Inv : tie.invariant-loop
+abbrev Inv : tie.invariant-loop-count
 Inv from words aevt avet eavt initial selects iters₀ slots₀ rows₀ width room count₀ iters slots rows count =
     let ts = tables_of aevt avet eavt in
     let ss = scans_in words in
     Filling ts ss initial selects (remaining ts ss initial iters₀) rows₀ iters₀ slots₀ iters slots width room rows count
 
-abbrev μ : tie.decreases-loop
+abbrev μ : tie.decreases-loop-count
 μ from words aevt avet eavt initial selects iters₀ slots₀ rows₀ width room count₀ iters slots rows count = room - count
 
 -- at the entry
@@ -80,7 +80,7 @@ module _ (c : Skip) where
 
 -- at the loop's head
 abbrev Head : Type 0
-Head = tie.At-loop Inv μ
+Head = tie.At-loop-count Inv μ
 
 module _ (c : Head) where
   abbrev skipped : Skip
@@ -138,30 +138,30 @@ module _ (c : Step) where
 
 -- where a row is written
 abbrev Put : Type 0
-Put = tie.After-put-row Inv μ
+Put = tie.After-put_row Inv μ
 
 -- where there is no more room and a step has answered
 abbrev Last : Type 0
-Last = tie.After-next2 Inv μ
+Last = tie.After-next-more Inv μ
 
-too_few : tie.Need-returns Inv μ
+too_few : tie.Need-returns-then-not-skip Inv μ
 too_few c =
     let s : Skip = search in
     let e = entry s in
-    let none = s.skip.ensures.no_more (not-true _ c.if1.true) in (
+    let none = s.skip.ensures.no_more (not-true _ c.if-not-skip.true-raw) in (
       shows-none (tables e) (scans e) e.args.initial.now e.args.selects.now _ _ e.args.from _ none,
       left-none _ _ e.args.from _ none (rest s),
     )
 
-all_shown : tie.Need-returns-2 Inv μ
+all_shown : tie.Need-returns-then-not-next Inv μ
 all_shown c =
     let s : Step = search in
     let h = head s in
     let from = (start h).args.from in
-    let no = answered s (not-true _ c.if2.true) in
+    let no = answered s (not-true _ c.if-not-next.true-raw) in
     (shows-all h.loop.inv _ from (rows-rest (skipped h)) (search) _ _ no, left-all h.loop.inv _ from (rest (skipped h)) _ _ no)
 
-full : tie.Need-returns-3 Inv μ
+full : tie.Need-returns Inv μ
 full c =
     let s : Last = search in
     let h : Head = search in
@@ -170,20 +170,20 @@ full c =
       left-full h.loop.inv _ from (rest (skipped h)) _ _ (search) s.next2.result s.next2.ensures,
     )
 
-put-asked : tie.Need-put-row-requires Inv μ
+put-asked : tie.Need-put_row-requires Inv μ
 put-asked c κs =
     let s : Step = search in
     let h = head s in
     (λ j l. rw (slots-step s ∙ slots_kept h) ((start h).pre.1.1.1.0 j l), omega (arith, row_in s, h.loop.inv.out_same))
 
-again : tie.Need-loop-preserved Inv μ
+again : tie.Need-loop-count-preserved Inv μ
 again c =
     let s : Step = search in
     let p : Put = search in
-    fill-again (head s).loop.inv _ _ _ (search) (answered s (not-false _ search)) (iters-step s) (slots-step s) p.put-row.kept.1.1.1.0 p.put-row.ensures
+    fill-again (head s).loop.inv _ _ _ (search) (answered s (not-false _ search)) (iters-step s) (slots-step s) p.put_row.kept.1.1.1.0 p.put_row.ensures
 
-pub show-spec : {M : Type 1} → statement M
-show-spec =
+pub show_spec : {M : Type 1} → statement M
+show_spec =
     tie.close
     (tie.spec
     Inv

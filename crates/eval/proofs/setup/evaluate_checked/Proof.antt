@@ -4,14 +4,14 @@ use borrow.Author.Rules.{rules}
 use Rattle.eval.proofs.setup.evaluate_checked.Statement.{statement}
 use Rattle.eval.proofs.setup.evaluate_checked.Tie as tie
 
-ready : tie.Need-evaluate-in-requires
+ready : tie.Need-evaluate_in-requires
 ready c κs = (
-  c.before.before.before.before.before.before.before.before.before.before.requires,
+  c.requires,
   record { words_room = omega arith; initial_room = omega arith; selects_room = omega arith; iters_room = omega arith; slots_room = omega arith },
 )
 
-pub evaluate-checked-spec : {M : Type 1} → statement M
-evaluate-checked-spec =
+pub evaluate_checked_spec : {M : Type 1} → statement M
+evaluate_checked_spec =
     tie.close
     (tie.spec
     (λ c. search rules)

@@ -7,32 +7,32 @@ use Rattle.eval.proofs.setup.evaluate_in.Statement.{statement}
 use Rattle.eval.proofs.setup.evaluate_in.Tie as tie
 
 -- from the call of `write_plan` back to the start, and from where the first part is lent back to that call
-abbrev start : tie.After-write-plan → tie.Start
+abbrev start : tie.After-write_plan → tie.Start
 start c = c.before.before.before.before.before.before.before.before.before.before.before.before.before.before
 
-abbrev written : tie.After-struct-known → tie.After-write-plan
+abbrev written : tie.After-struct_known-1 → tie.After-write_plan
 written c = c.before.before.before.before.before.before.before.before.before
 
-few : tie.Need-overflow-mul-word-count
+few : tie.Need-overflow_mul-word_count
 few c = record { fits = omega (arith, (start (written c)).requires.0.promised.few_scans) }
 
-words_fit : tie.Need-slice-reshare-prefix-run
+words_fit : tie.Need-slice_bounds-run-end
 words_fit c = let s = (start (written c)).requires in still-fits _ _ _ (room_for s.0 s.1).words_fit (written c).write-plan.auto.1.0
 
-initial_fit : tie.Need-slice-reshare-prefix-run-2
-initial_fit c = let w = written c.before in let s = (start w).pre in still-fits _ _ _ (room_for s.0 s.1).initial_fit w.write-plan.kept.1.1.0
+initial_fit : tie.Need-slice_bounds-run-end-3
+initial_fit c = let w = written c in let s = (start w).pre in still-fits _ _ _ (room_for s.0 s.1).initial_fit w.write_plan.kept.1.1.0
 
-selects_fit : tie.Need-slice-reshare-prefix-run-3
-selects_fit c = let w = written c.before.before in let s = (start w).pre in still-fits _ _ _ (room_for s.0 s.1).selects_fit w.write-plan.kept.1.1.1.0
+selects_fit : tie.Need-slice_bounds-run-end-5
+selects_fit c = let w = written c in let s = (start w).pre in still-fits _ _ _ (room_for s.0 s.1).selects_fit w.write_plan.kept.1.1.1.0
 
-slots_fit : tie.Need-slice-relend-prefix-run
-slots_fit c = let w = written c.before.before.before.before in let s = (start w).pre in still-fits _ _ _ (room_for s.0 s.1).slots_fit w.write-plan.kept.1.1.1.1.0
+slots_fit : tie.Need-slice_bounds-run-end-7
+slots_fit c = let w = written c.before in let s = (start w).pre in still-fits _ _ _ (room_for s.0 s.1).slots_fit w.write_plan.kept.1.1.1.1.0
 
 ready : tie.Need-run-requires
 ready c κs =
-    let call = written c.before.before.before.before.before.before in
+    let call = written c.before.before.before in
     let pre = (start call).pre in
-    let out = call.write-plan.ensures in
+    let out = call.write_plan.ensures in
     let ok = pre.0 in
     let w = out.words_are in
     let u = out.slots_are in
@@ -48,37 +48,37 @@ ready c κs =
     )
 
 -- the two calls, from where the function returns
-abbrev written_then : tie.After-slice-known13 → tie.After-write-plan
-written_then c = written c.before.before.before.before.before.before.before.before.before.before.before.before.before
+abbrev written_then : tie.After-slice_known-13-1 → tie.After-write_plan
+written_then c = written c.before.before.before.before.before.before.before.before.before.before
 
-abbrev ran : tie.After-slice-known13 → tie.After-run
+abbrev ran : tie.After-slice_known-13-1 → tie.After-run
 ran c = c.before.before.before.before.before.before
 
-slots_kept : tie.Need-same-length-5
+slots_kept : tie.Need-shape_of-slots
 slots_kept c =
     let w = written_then c in
-    length_front w.write-plan.last.1.1.1.1.0 (ran c).run.new.1.1.1.1.1.1.1.1.0 (start w).args.plan.slot_count
+    length_front w.write_plan.last.1.1.1.1.0 (ran c).run.new.1.1.1.1.1.1.1.1.0 (start w).args.plan.slot_count
     (ran c).run.auto.1.1.1.1.1.1.1.1.0
-    ∙ w.write-plan.kept.1.1.1.1.0
+    ∙ w.write_plan.kept.1.1.1.1.0
 
 shown : tie.Need-returns
 shown c =
     let w = written_then c in
-    let out = w.write-plan.ensures in
+    let out = w.write_plan.ensures in
     layout-shows (start w).pre.0 _ _ _ out.words_are out.initial_are out.selects_are (start w).args.from _ _ _ _ (ran c).run.ensures
 
-pub evaluate-in-spec : {M : Type 1} → statement M
-evaluate-in-spec =
+pub evaluate_in_spec : {M : Type 1} → statement M
+evaluate_in_spec =
     tie.close
     (tie.spec
-    (λ c κs. let s = c.before.before.before.before.before.before.before.before.before.before.before.before.before.requires in room_for s.0 s.1)
+    (λ c κs. let s = c.requires in room_for s.0 s.1)
     few
     words_fit
-    (λ c. sym (length-take-le _ _ (words_fit c.before)))
+    (λ c. sym (length-take-le _ _ (words_fit c)))
     initial_fit
-    (λ c. sym (length-take-le _ _ (initial_fit c.before)))
+    (λ c. sym (length-take-le _ _ (initial_fit c)))
     selects_fit
-    (λ c. sym (length-take-le _ _ (selects_fit c.before)))
+    (λ c. sym (length-take-le _ _ (selects_fit c)))
     slots_fit
     (λ c. sym (length-take-le _ _ (slots_fit c.before)))
     ready

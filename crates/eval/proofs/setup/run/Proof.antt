@@ -12,38 +12,36 @@ use Rattle.eval.proofs.setup.run.Tie as tie
 
 ready : tie.Need-show-requires
 ready c κs =
-    let start = c.before.before.before.before.before.before.before.before.before.before.before.before.before.before.before.before.before.before.before.before in
-    let a = start.args in
-    let iter = c.before.before.before.get-iter in
-    let laid = start.requires.0 in
-    let scans = start.requires.1.1.0 in
+    let a = c.args in
+    let iter = c.get_iter-iter in
+    let laid = c.requires.0 in
+    let scans = c.requires.1.1.0 in
     let ts = tables_of a.aevt.now a.avet.now a.eavt.now in
-    let table = table_is (laid-lies laid 0 scans.0) ts _ c.before.before.before.before.before.get-table.ensures in
-    (laid, (start.requires.1.0, (start-ready ts (scans_in a.words.now) a.initial.now a.slots.now _ _ _ _ _ start.requires.1.1.1.0 c.before.before.before.before.before.before.before.before.before.clear.ensures scans.0 scans.1 table iter.ensures, start.requires.1.1.1.1)))
+    let table = table_is (laid-lies laid 0 scans.0) ts _ c.get_table-table.ensures in
+    (laid, (c.requires.1.0, (start-ready ts (scans_in a.words.now) a.initial.now a.slots.now _ _ _ _ _ c.requires.1.1.1.0 c.clear.ensures scans.0 scans.1 table iter.ensures, c.requires.1.1.1.1)))
 
 shown : tie.Need-returns
 shown c =
-    let start = c.before.before.before.before.before.before.before.before.before.before.before.before.before.before.before.before.before.before.before.before.before.before.before.before.before.before.before in
-    let a = start.args in
-    let iter = c.before.before.before.before.before.before.before.before.before.before.get-iter in
-    let laid = start.requires.0 in
-    let scans = start.requires.1.1.0 in
+    let a = c.args in
+    let iter = c.get_iter-iter in
+    let laid = c.requires.0 in
+    let scans = c.requires.1.1.0 in
     let ts = tables_of a.aevt.now a.avet.now a.eavt.now in
-    let table = table_is (laid-lies laid 0 scans.0) ts _ c.before.before.before.before.before.before.before.before.before.before.before.before.get-table.ensures in
-    rw (start-all ts (scans_in a.words.now) a.initial.now a.slots.now _ _ _ _ _ start.requires.1.1.1.0 c.before.before.before.before.before.before.before.before.before.before.before.before.before.before.before.before.clear.ensures scans.0 scans.1 table iter.ensures start.requires.1.0) at c.before.before.before.before.before.before.show.ensures.0
+    let table = table_is (laid-lies laid 0 scans.0) ts _ c.get_table-table.ensures in
+    rw (start-all ts (scans_in a.words.now) a.initial.now a.slots.now _ _ _ _ _ c.requires.1.1.1.0 c.clear.ensures scans.0 scans.1 table iter.ensures c.requires.1.0) at c.show.ensures.0
 
 pub run_spec : {M : Type 1} → statement M
 run_spec =
     tie.close
     (tie.spec
     (λ c κs. search rules)
-    (λ c. omega (arith, laid-length c.before.before.before.before.before.before.before.before.before.before.before.before.before.before.requires.0, c.before.before.before.before.before.before.before.before.before.before.before.before.before.before.requires.1.1.0.0))
+    (λ c. omega (arith, laid-length c.requires.0, c.requires.1.1.0.0))
     (λ c κs. search rules)
-    (λ c κs. laid-lies c.before.before.before.before.before.before.before.before.before.before.before.before.before.before.before.before.requires.0 0 c.before.before.before.before.before.before.before.before.before.before.before.before.before.before.before.before.requires.1.1.0.0)
+    (λ c κs. laid-lies c.requires.0 0 c.requires.1.1.0.0)
     (λ c. search rules)
-    (λ c. simp length-set (omega (arith, c.before.before.before.before.before.before.before.before.before.before.before.before.before.before.before.before.before.requires.1.1.0, c.before.before.before.before.before.before.clear.auto.0)))
+    (λ c. simp length-set (omega (arith, c.requires.1.1.0, c.clear.auto.words)))
     ready
-    (λ c. c.before.before.before.before.before.before.show.auto.1.1.1.1.1.1.1.0 ∙ begun-same c.before.before.before.before.before.before.before.before.before.before.before.before.before.before.before.before.clear.new.0 c.before.before.before.before.before.before.before.before.before.before.get-iter.result.position c.before.before.before.before.before.before.before.before.before.before.get-iter.result.end ∙ c.before.before.before.before.before.before.before.before.before.before.before.before.before.before.before.before.clear.auto.0)
+    (λ c. c.show.auto.iters ∙ begun-same c.clear.new.words c.get_iter-iter.result.position c.get_iter-iter.result.end ∙ c.clear.auto.words)
     (λ c. search rules)
     (λ c. search rules)
     shown)

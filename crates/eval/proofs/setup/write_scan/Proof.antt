@@ -10,12 +10,11 @@ use Rattle.eval.proofs.setup.write_scan.Tie as tie
 written : tie.Need-returns
 unfolding words_of
 written c =
-    let start = c.before.before.before.before.before.before.before in
-    rw (c.before.before.before.index-code.ensures, c.before.before.flow-code.ensures, c.before.in_order.ensures, c.in-order2.ensures)
-    (write-five start.args.words.now start.args.at _ _ _ _ _ start.requires)
+    rw (c.index_code.ensures, c.flow_code.ensures, c.in_order.ensures, c.in_order-2.ensures)
+    (write-five c.args.words.now c.args.at _ _ _ _ _ c.requires)
 
-pub write-scan-spec : {M : Type 1} → statement M
-write-scan-spec =
+pub write_scan_spec : {M : Type 1} → statement M
+write_scan_spec =
     tie.close
     (tie.spec
     (λ c κs. search rules)

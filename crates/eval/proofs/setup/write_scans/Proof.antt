@@ -10,29 +10,28 @@ use Rattle.eval.proofs.Write.{write-more}
 use Rattle.eval.proofs.setup.write_scans.Statement.{statement}
 use Rattle.eval.proofs.setup.write_scans.Tie as tie
 
-abbrev Inv : tie.invariant-loop
+abbrev Inv : tie.invariant-loop-i
 Inv n words₀ scans i₀ words i = (i ≤ n) × (length words ≡ length words₀) × (take (laid_words * i) words ≡ words_of (take i scans))
 
-abbrev μ : tie.decreases-loop
+abbrev μ : tie.decreases-loop-i
 μ n words₀ scans i₀ words i = n - i
 
-none : tie.Need-loop-init Inv μ
+none : tie.Need-loop-i-init Inv μ
 unfolding words_of
 none c = (omega arith, refl, refl)
 
-again : tie.Need-loop-preserved Inv μ
+again : tie.Need-loop-i-preserved Inv μ
 again c =
-    let start = c.before.before.before.before.before.before.before.before in
-    let loop = c.before.before.before.before.before.before.loop in
-    let wrote = c.before.before.write-scan in
-    let h : length start.args.t1 ≡ max_scans = search rules in (
+    let loop = c.loop-i in
+    let wrote = c.write_scan in
+    let h : length c.args.scans ≡ max_scans = search rules in (
       omega arith,
-      wrote.auto.1.1.0 ∙ loop.invariant.1,
-      write-more start.args.t1 loop.words _ loop.i (omega arith) (omega arith) loop.invariant.2 wrote.ensures,
+      wrote.auto.words ∙ loop.invariant.1,
+      write-more c.args.scans loop.words _ loop.i (omega arith) (omega arith) loop.invariant.2 wrote.ensures,
     )
 
-pub write-scans-spec : {M : Type 1} → statement M
-write-scans-spec =
+pub write_scans_spec : {M : Type 1} → statement M
+write_scans_spec =
     tie.close
     (tie.spec
     Inv
@@ -45,5 +44,5 @@ write-scans-spec =
     (λ c. search rules)
     (λ c. search rules)
     again
-    (λ c. c.before.loop.invariant.1)
-    (λ c. let e : c.before.loop.i ≡ c.before.before.before.args.scan-count = omega arith in rw e at c.before.loop.invariant.2))
+    (λ c. c.loop-i.invariant.1)
+    (λ c. let e : c.loop-i.i ≡ c.args.scan_count = omega arith in rw e at c.loop-i.invariant.2))

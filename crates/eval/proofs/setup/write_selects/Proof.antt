@@ -12,24 +12,24 @@ use Rattle.eval.specs.Evaluation.{numbers_of}
 use Rattle.eval.proofs.setup.write_selects.Statement.{statement}
 use Rattle.eval.proofs.setup.write_selects.Tie as tie
 
-abbrev Inv : tie.invariant-loop
+abbrev Inv : tie.invariant-loop-i
 Inv n selects₀ select i₀ selects i = (i ≤ n) × (length selects ≡ length selects₀) × (take i selects ≡ numbers_of (take i select))
 
-abbrev μ : tie.decreases-loop
+abbrev μ : tie.decreases-loop-i
 μ n selects₀ select i₀ selects i = n - i
 
-again : tie.Need-loop-preserved Inv μ
+again : tie.Need-loop-i-preserved Inv μ
 again c =
-    let a = c.before.before.before.before.args in
-    let l = c.before.before.before.loop in
-    let h : length a.t1 ≡ max_selects = search rules in (
+    let a = c.args in
+    let l = c.loop-i in
+    let h : length a.select ≡ max_selects = search rules in (
       omega arith,
       length-set l.selects _ _ ∙ l.invariant.1,
-      map-step (λ (s : Slot). s.0) a.t1 l.selects l.i zero_slot _ (omega arith) (omega arith) refl l.invariant.2,
+      map-step (λ (s : Slot). s.0) a.select l.selects l.i zero_slot _ (omega arith) (omega arith) refl l.invariant.2,
     )
 
-pub write-selects-spec : {M : Type 1} → statement M
-write-selects-spec =
+pub write_selects_spec : {M : Type 1} → statement M
+write_selects_spec =
     tie.close
     (tie.spec
     Inv
@@ -43,5 +43,5 @@ write-selects-spec =
     (λ c. search rules)
     (λ c. search rules)
     again
-    (λ c. c.before.loop.invariant.1)
-    (λ c. let e : c.before.loop.i ≡ c.before.before.args.select-count = omega arith in rw e at c.before.loop.invariant.2))
+    (λ c. c.loop-i.invariant.1)
+    (λ c. let e : c.loop-i.i ≡ c.args.select_count = omega arith in rw e at c.loop-i.invariant.2))

@@ -13,25 +13,25 @@ use Rattle.eval.specs.Evaluation.{values_of}
 use Rattle.eval.proofs.setup.write_slots.Statement.{statement}
 use Rattle.eval.proofs.setup.write_slots.Tie as tie
 
-abbrev Inv : tie.invariant-loop
+abbrev Inv : tie.invariant-loop-i
 Inv n values₀ slots i₀ values i = (i ≤ n) × (length values ≡ length values₀) × (take i values ≡ values_of (take i slots))
 
-abbrev μ : tie.decreases-loop
+abbrev μ : tie.decreases-loop-i
 μ n values₀ slots i₀ values i = n - i
 
-again : tie.Need-loop-preserved Inv μ
+again : tie.Need-loop-i-preserved Inv μ
 again c =
-    let a = c.before.before.before.before.before.args in
-    let l = c.before.before.before.loop in
-    let h : length a.t1 ≡ max_slots = search rules in (
+    let a = c.args in
+    let l = c.loop-i in
+    let h : length a.slots ≡ max_slots = search rules in (
       omega arith,
       length-set l.values _ _ ∙ l.invariant.1,
-      map-step (λ (s : SlotRecord). start_value s.definition) a.t1 l.values l.i variable_slot c.value_of.result (omega arith) (omega arith)
+      map-step (λ (s : SlotRecord). start_value s.definition) a.slots l.values l.i variable_slot c.value_of.result (omega arith) (omega arith)
           c.value_of.ensures l.invariant.2,
     )
 
-pub write-slots-spec : {M : Type 1} → statement M
-write-slots-spec =
+pub write_slots_spec : {M : Type 1} → statement M
+write_slots_spec =
     tie.close
     (tie.spec
     Inv
@@ -45,5 +45,5 @@ write-slots-spec =
     (λ c. search rules)
     (λ c. search rules)
     again
-    (λ c. c.before.loop.invariant.1)
-    (λ c. let e : c.before.loop.i ≡ c.before.before.before.args.slot-count = omega arith in rw e at c.before.loop.invariant.2))
+    (λ c. c.loop-i.invariant.1)
+    (λ c. let e : c.loop-i.i ≡ c.args.slot_count = omega arith in rw e at c.loop-i.invariant.2))

@@ -53,11 +53,11 @@ claims t = (
   get-iter-reads.Learnt,
 )
 
-abbrev Inv : increment-lts.invariant-loop
+abbrev Inv : increment-lts.invariant-loop-iters
 Inv i words aevt avet eavt initial iters₀ slots₀ table iters slots =
     Turn (tables_of aevt avet eavt) (scans_in words) initial iters₀ slots₀ i iters slots
 
-abbrev μ : increment-lts.decreases-loop
+abbrev μ : increment-lts.decreases-loop-iters
 μ i words aevt avet eavt initial iters₀ slots₀ table iters slots = length (pending (tables_of aevt avet eavt) (scans_in words) initial iters i)
 
 -- at the entry
@@ -80,7 +80,7 @@ module _ {t : ℕ} (c : Entry t) where
 
 -- where the scan's table is at hand
 abbrev Tabled : ℕ → Type 0
-Tabled t = increment-lts.After-get-table (claims t) (increment-at t) increment.Post Inv μ
+Tabled t = increment-lts.After-get_table-table (claims t) (increment-at t) increment.Post Inv μ
 
 module _ {t : ℕ} (c : Tabled t) where
   abbrev entry : Entry t
@@ -94,7 +94,7 @@ module _ {t : ℕ} (c : Tabled t) where
 
 -- at the loop's head
 abbrev Head : ℕ → Type 0
-Head t = increment-lts.At-loop (claims t) (increment-at t) increment.Post Inv μ
+Head t = increment-lts.At-loop-iters (claims t) (increment-at t) increment.Post Inv μ
 
 module _ {t : ℕ} (c : Head t) where
   abbrev tabled : Tabled t
@@ -136,7 +136,7 @@ module _ {t : ℕ} (c : Head t) where
 
 -- where a row was left and the slots are filled
 abbrev Filled : ℕ → Type 0
-Filled t = increment-lts.After-fill-slots (claims t) (increment-at t) increment.Post Inv μ
+Filled t = increment-lts.After-fill_slots (claims t) (increment-at t) increment.Post Inv μ
 
 -- where the scan outside has taken its step
 abbrev Outside : ℕ → Type 0
@@ -177,7 +177,7 @@ module _ {t : ℕ} (c : Outside t) where
 
 -- where the scan's range is found anew
 abbrev Again : ℕ → Type 0
-Again t = increment-lts.After-get-iter (claims t) (increment-at t) increment.Post Inv μ
+Again t = increment-lts.After-get_iter-iter (claims t) (increment-at t) increment.Post Inv μ
 
 module _ {t : ℕ} (c : Again t) where
   abbrev outside : Outside t
@@ -186,8 +186,8 @@ module _ {t : ℕ} (c : Again t) where
   took : Answered outside true
   took = answered outside (not-false _ search)
 
-pub +increment-spec : {M : Type 1} → statement M
-+increment-spec =
+pub +increment_spec : {M : Type 1} → statement M
++increment_spec =
     close μ-increment λ t. increment-lts.spec (claims t) (increment-at t) increment.Post Inv μ
     (λ c. let e : Entry t = search in omega (arith, (entry-lies e).whole))
     (λ c. let e : Entry t = search in omega (arith, (entry-lies e).whole))
@@ -213,21 +213,21 @@ pub +increment-spec : {M : Type 1} → statement M
     (λ c. let h : Head t = search in omega (arith, rows_in h))
     (λ c κs. let h : Head t = search in (lies h, left-some (turn h) _ (table-its (tabled h)) search))
     (λ c. let h : Head t = search in length-set h.loop.iters _ _ ∙ (turn h).iters_same)
-    (λ c. let h : Head t = search in let f : Filled t = search in f.fill-slots.kept.1.1.1.0 ∙ (turn h).slots_same)
+    (λ c. let h : Head t = search in let f : Filled t = search in f.fill_slots.kept.1.1.1.0 ∙ (turn h).slots_same)
     (λ c.
     let h : Head t = search in
     let f : Filled t = search in
     let left : its-position h < its-end h = search in
     let its = table-its (tabled h) in
-    turn-take (turn h) (laid h).sound left _ _ its (rw (left-first (turn h) _ its left) at f.fill-slots.ensures))
+    turn-take (turn h) (laid h).sound left _ _ its (rw (left-first (turn h) _ its left) at f.fill_slots.ensures))
     (λ c. let h : Head t = search in (turn h).iters_same)
     (λ c. let h : Head t = search in (turn h).slots_same)
-    (λ c. let h : Head t = search in turn_end (turn h) (search) c.if2.true)
+    (λ c. let h : Head t = search in turn_end (turn h) (search) c.if-i-eq0.true)
     (λ c. omega arith)
     (λ c κs. let h : Head t = search in (omega (arith, (start h).pre.0), (laid h, ((start h).pre.1.1.0, turn-ready (turn h)))))
     (λ c. let o : Outside t = search in iters-kept o ∙ (turn (head o)).iters_same)
     (λ c. let o : Outside t = search in slots_kept o ∙ (turn (head o)).slots_same)
-    (λ c. let o : Outside t = search in turn-no (turn (head o)) (dry o) (nonzero o) _ _ (answered o (not-true _ c.if3.true)))
+    (λ c. let o : Outside t = search in turn-no (turn (head o)) (dry o) (nonzero o) _ _ (answered o (not-true _ c.if-not-increment.true-raw)))
     (λ c κs. let o : Outside t = search in rw (slots_kept o) (lies (head o)))
     (λ c. omega (arith, iter-low (head (outside c))))
     (λ c. omega (arith, iter-low (head (outside c))))
@@ -238,9 +238,9 @@ pub +increment-spec : {M : Type 1} → statement M
     (λ c. simp length-set (omega (arith, iter-in₁ (outside c))))
     (λ c.
     let o = outside c in
-    turn-less (turn (head o)) (dry o) (nonzero o) _ _ (took c) (iters-kept o) (slots_kept o) _ _ _ c.get-iter.ensures)
+    turn-less (turn (head o)) (dry o) (nonzero o) _ _ (took c) (iters-kept o) (slots_kept o) _ _ _ c.get_iter-iter.ensures)
     (λ c.
     let o = outside c in
     let h = head o in
-    turn-again (turn h) (dry o) (nonzero o) _ _ (took c) (iters-kept o) (slots_kept o) _ _ _ c.get-iter.ensures
+    turn-again (turn h) (dry o) (nonzero o) _ _ (took c) (iters-kept o) (slots_kept o) _ _ _ c.get_iter-iter.ensures
     (laid h).sound (start h).pre.1.1.0 (table-its (tabled h)))

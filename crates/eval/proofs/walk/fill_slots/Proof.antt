@@ -5,21 +5,19 @@ use Rattle.eval.proofs.Scans.{filled_none, filled-one, filled-two}
 use Rattle.eval.proofs.walk.fill_slots.Statement.{statement}
 use Rattle.eval.proofs.walk.fill_slots.Tie as tie
 
-none_written : tie.Need-returns
-none_written c = let start = c.before.before in filled-two start.requires.0 _ (row start.args.rows.now 0) c.if1.true
+none_written : tie.Need-returns-then-inputs-eq2
+none_written c = filled-two c.requires.0 _ (row c.args.rows.now 0) c.if-inputs-eq2.true
 
-both-written : tie.Need-returns-2
+both-written : tie.Need-returns-then-inputs-eq0
 both-written c =
-    let start = c.before.before.before.before.before.before.before in
-    filled_none start.requires.0 _ _ 0 start.requires.1 c.before.before.if2.true
+    filled_none c.requires.0 _ _ 0 c.requires.1 c.if-inputs-eq0.true
 
-second-written : tie.Need-returns-3
+second-written : tie.Need-returns
 second-written c =
-    let start = c.before.before.before.before.before.before in
-    filled-one start.requires.0 _ _ 0 start.requires.1 c.before.if2.false c.before.before.before.before.if1.false
+    filled-one c.requires.0 _ _ 0 c.requires.1 c.if-inputs-eq0.false c.if-inputs-eq2.false
 
-pub fill-slots-spec : {M : Type 1} → statement M
-fill-slots-spec =
+pub fill_slots_spec : {M : Type 1} → statement M
+fill_slots_spec =
     tie.close
     (tie.spec
     (λ c. search rules)

@@ -4,8 +4,8 @@ use Rattle.eval.proofs.Scans.{found-eavt, found-other}
 use Rattle.eval.proofs.walk.get_iter.Statement.{statement}
 use Rattle.eval.proofs.walk.get_iter.Tie as tie
 
-pub get-iter-spec : {M : Type 1} → statement M
-get-iter-spec =
+pub get_iter_spec : {M : Type 1} → statement M
+get_iter_spec =
     tie.close
     (tie.spec
     (λ c. search rules)
@@ -33,6 +33,6 @@ get-iter-spec =
     (λ c. search rules)
     (λ c. search rules)
     (λ c κs. search rules)
-    (λ c. found-eavt c.before.before.before.before.before.before.before.before.before.before.before.before.requires c.before.before.before.before.before.before.before.before.before.before.before.before.args.slots.now _ _ _ c.before.if1.true c.get-scan-bounds.ensures)
+    (λ c. found-eavt c.requires c.args.slots.now _ _ _ c.if-number-eq-EAVT.true c.get_scan_bounds.ensures)
     (λ c κs. search rules)
-    (λ c. found-other c.before.before.before.before.before.before.before.before.before.before.before.before.requires c.before.before.before.before.before.before.before.before.before.before.before.before.args.slots.now _ _ _ c.before.if1.false c.get-scan-bounds2.ensures))
+    (λ c. found-other c.requires c.args.slots.now _ _ _ c.if-number-eq-EAVT.false c.get_scan_bounds-2.ensures))

@@ -11,8 +11,8 @@ past i n = omega arith
 
 found : tie.Need-returns
 found c =
-    let e = c.range.ensures in
+    let e = c.range-rows.ensures in
     record { within = e.within; rows = λ sorted. rw past (e.numbers sorted) }
 
-pub get-scan-bounds-spec : {M : Type 1} → statement M
-get-scan-bounds-spec = tie.close (tie.spec (λ c κs. search rules) (λ c. search rules) found)
+pub get_scan_bounds_spec : {M : Type 1} → statement M
+get_scan_bounds_spec = tie.close (tie.spec (λ c κs. search rules) (λ c. search rules) found)

@@ -1,0 +1,12 @@
+use mathlib.Core.Path.{◌≡◌}
+use Prim.Native.Nat.{◌-◌, ◌≤◌}
+use lib.ListN.{length, take}
+use Rattle.planner_lent.specs.Lent.{read_statements}
+use Rattle.planner_lent.proofs.read_statements.Given as goal
+
+-- the first i are read
+abbrev pub invariant-loop-i : goal.invariant-loop-i
+invariant-loop-i l = (l.i ≤ length l.lent) × (l.statements ≡ read_statements (take l.i l.lent))
+
+abbrev pub decreases-loop-i : goal.decreases-loop-i
+decreases-loop-i l = length l.lent - l.i
