@@ -14,12 +14,12 @@ abbrev μ : tie.decreases-loop-i
 μ count given order items₀ i₀ items i = count - i
 
 start : tie.Need-loop-i-init Inv μ
-start c = (omega arith, filled-start _ c.args.order _ c.requires)
+start c = (omega arith, filled-start _ c.args.given _ c.requires)
 
 again : tie.Need-loop-i-preserved Inv μ
 again c =
     let l = c.loop-i in
-    (omega arith, rw l.invariant.1 (filled_more _ c.args.order _ c.requires l.i c.loop-i-test.true))
+    (omega arith, rw l.invariant.1 (filled_more _ c.args.given _ c.requires l.i c.loop-i-test.true))
 
 done : tie.Need-returns Inv μ
 done c =
@@ -28,14 +28,13 @@ done c =
     rw e at l.invariant.1
 
 -- the statement's number is below the count
-times : tie.Need-overflow-mul-statement Inv μ
+times : tie.Need-offset_bounds-given-number Inv μ
 times c =
-    let a = c.before.before in
-    record { fits = omega (arith, number-below _ a.args.order _ a.requires c.loop-i.i c.loop-i-test.true, a.requires.few) }
+    record { fits = omega (arith, number-below _ c.args.given _ c.requires c.loop-i.i c.loop-i-test.true, c.requires.few) }
 
 reads : tie.Need-bounds-given-number Inv μ
 reads c =
-    omega (arith, number-below _ c.args.order _ c.requires c.loop-i.i c.loop-i-test.true, c.requires.few)
+    omega (arith, number-below _ c.args.given _ c.requires c.loop-i.i c.loop-i-test.true, c.requires.few)
 
 pub arrange_items_spec : {M : Type 1} → statement M
 arrange_items_spec =

@@ -14,10 +14,10 @@ use Rattle.search.proofs.search.Statement.{statement}
 use Rattle.search.proofs.search.Tie as tie
 
 sized : (c : tie.Start) → length c.args.query.where_statements.items ≡ max_statements
-sized c = simp length-map at c.well_formed.0.1.1.1.0.1.1.0.1.0.1
+sized c = search rules
 
 selects_sized : (c : tie.Start) → length c.args.query.select.items ≡ max_selects
-selects_sized c = simp length-map at c.well_formed.0.1.1.1.1.0.1.1.0.1.0.1
+selects_sized c = search rules
 
 refused : tie.Need-returns-in-Refused
 refused c =

@@ -27,7 +27,7 @@ keeps : (c : tie.Joined-is_better Inv μ) →
     c.if-is_better.best ≡ better l.best (record { is_some = true; order = a.order; scans = l.scans; cost = c.cost_of_scans-costed.result.cost })
 keeps c =
     let e = sym c.is_better.ensures in
-    ⊎_elim (λ w. rw (w.1, e ∙ w.0.taken)) (λ w. rw (w.1, e ∙ w.0.left)) c.if-is_better.branch
+    ⊎_elim (λ w. rw (w.best-is, e ∙ w.if-is_better.true)) (λ w. rw (w.best-is, e ∙ w.if-is_better.false)) c.if-is_better.branch-raw
 
 -- the scans are stepped, as they are not refused
 steps : (n : tie.After-next_scans-next Inv μ) →
