@@ -1,4 +1,3 @@
-pub mod Searching
 pub mod Agree
 pub mod Whole
 pub mod OneAnswer

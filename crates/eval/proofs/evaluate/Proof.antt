@@ -10,10 +10,10 @@ use Rattle.eval.proofs.evaluate.Tie as tie
 
 -- a plan's arrays are as long as their capacities
 many_scans : (c : tie.Start) → length c.args.plan.scans ≡ max_scans
-many_scans c = simp length-map at c.well_formed.0.1.1.0.1.0.1
+many_scans c = search rules
 
 many_selects : (c : tie.Start) → length c.args.plan.select ≡ max_selects
-many_selects c = simp length-map at c.well_formed.0.1.1.1.1.1.1.0.1.0.1
+many_selects c = search rules
 
 refuses : tie.Need-returns-in-Refused
 refuses c =

@@ -50,7 +50,7 @@ module _ (c : Entry) where
   width = length c.args.selects.now
 
   out-low : length c.args.rows.now * 8 < 2 ^ 63
-  out-low = omega (arith, c.well-formed)
+  out-low = omega (arith, c.well_formed)
 
 -- where `skip` has answered
 abbrev Skip : Type 0
@@ -61,16 +61,16 @@ module _ (c : Skip) where
   entry = c.before.before.before.before.before.before.before.before.before.before.before.before
 
   abbrev iters₁ : List ℕ
-  iters₁ = c.skip.new.1.1.1.1.1.1.0
+  iters₁ = c.skip.new.iters
 
   abbrev slots₁ : List ℕ
-  slots₁ = c.skip.new.1.1.1.1.1.1.1.0
+  slots₁ = c.skip.new.slots
 
   iters-kept₁ : length iters₁ ≡ length entry.args.iters.now
-  iters-kept₁ = c.skip.auto.1.1.1.1.1.1.0
+  iters-kept₁ = c.skip.auto.iters
 
   slots-kept₁ : length slots₁ ≡ length entry.args.slots.now
-  slots-kept₁ = c.skip.auto.1.1.1.1.1.1.1.0
+  slots-kept₁ = c.skip.auto.slots
 
   rest : visits entry iters₁ ≡ drop entry.args.from (visits entry entry.args.iters.now)
   rest = c.skip.ensures.rest
@@ -89,18 +89,18 @@ module _ (c : Head) where
   abbrev start : Entry
   start = entry skipped
 
-  iters-kept : length c.loop.iters ≡ length start.args.iters.now
-  iters-kept = c.loop.invariant.iters_same ∙ iters-kept₁ skipped
+  iters-kept : length c.loop-count.iters ≡ length start.args.iters.now
+  iters-kept = c.loop-count.invariant.iters_same ∙ iters-kept₁ skipped
 
-  slots_kept : length c.loop.slots ≡ length start.args.slots.now
-  slots_kept = c.loop.invariant.slots_same ∙ slots-kept₁ skipped
+  slots_kept : length c.loop-count.slots ≡ length start.args.slots.now
+  slots_kept = c.loop-count.invariant.slots_same ∙ slots-kept₁ skipped
 
   -- what a step asks
   asked :
-      (Laid start.args.words.now (length c.loop.slots))
+      (Laid start.args.words.now (length c.loop-count.slots))
       × ((Ascend (tables start))
-      × (Ready (tables start) (scans start) start.args.initial.now c.loop.iters c.loop.slots (innermost (scans start))))
-  asked = (rw slots_kept start.pre.0, (start.pre.1.0, c.loop.invariant.ready))
+      × (Ready (tables start) (scans start) start.args.initial.now c.loop-count.iters c.loop-count.slots (innermost (scans start))))
+  asked = (rw slots_kept start.requires.0, (start.requires.1.0, c.loop-count.invariant.ready))
 
 -- where there is room and a step has answered
 abbrev Step : Type 0
@@ -111,30 +111,30 @@ module _ (c : Step) where
   head = c.before.before.before.before
 
   abbrev iters₂ : List ℕ
-  iters₂ = c.next.new.1.1.1.1.1.0
+  iters₂ = c.next.new.iters
 
   abbrev slots₂ : List ℕ
-  slots₂ = c.next.new.1.1.1.1.1.1.0
+  slots₂ = c.next.new.slots
 
-  iters-step : length iters₂ ≡ length head.loop.iters
-  iters-step = c.next.auto.1.1.1.1.1.0
+  iters-step : length iters₂ ≡ length head.loop-count.iters
+  iters-step = c.next.auto.iters
 
-  slots-step : length slots₂ ≡ length head.loop.slots
-  slots-step = c.next.auto.1.1.1.1.1.1.0
+  slots-step : length slots₂ ≡ length head.loop-count.slots
+  slots-step = c.next.auto.slots
 
   -- what it did, by its answer
   abbrev Answered : Bool → Type 0
-  Answered more = Advanced (tables (start head)) (scans (start head)) (start head).args.initial.now head.loop.iters more iters₂ slots₂
+  Answered more = Advanced (tables (start head)) (scans (start head)) (start head).args.initial.now head.loop-count.iters more iters₂ slots₂
 
   answered : {more : Bool} → c.next.result ≡ more → Answered more
   answered e = subst Answered e c.next.ensures
 
   -- the next row has its place in the buffer
-  row_in : head.loop.count * width (start head) + width (start head) ≤ length (start head).args.rows.now
-  row_in = fill-room head.loop.inv (search)
+  row_in : head.loop-count.count * width (start head) + width (start head) ≤ length (start head).args.rows.now
+  row_in = fill-room head.loop-count.invariant (search)
 
-  count-in : head.loop.count + 1 ≤ length (start head).args.rows.now
-  count-in = fill-count head.loop.inv (search)
+  count-in : head.loop-count.count + 1 ≤ length (start head).args.rows.now
+  count-in = fill-count head.loop-count.invariant (search)
 
 -- where a row is written
 abbrev Put : Type 0
@@ -159,28 +159,28 @@ all_shown c =
     let h = head s in
     let from = (start h).args.from in
     let no = answered s (not-true _ c.if-not-next.true-raw) in
-    (shows-all h.loop.inv _ from (rows-rest (skipped h)) (search) _ _ no, left-all h.loop.inv _ from (rest (skipped h)) _ _ no)
+    (shows-all h.loop-count.invariant _ from (rows-rest (skipped h)) (search) _ _ no, left-all h.loop-count.invariant _ from (rest (skipped h)) _ _ no)
 
 full : tie.Need-returns Inv μ
 full c =
     let s : Last = search in
     let h : Head = search in
     let from = (start h).args.from in (
-      shows-full h.loop.inv _ from (rows-rest (skipped h)) (search) s.next2.result _ _ s.next2.ensures,
-      left-full h.loop.inv _ from (rest (skipped h)) _ _ (search) s.next2.result s.next2.ensures,
+      shows-full h.loop-count.invariant _ from (rows-rest (skipped h)) (search) s.next-more.result _ _ s.next-more.ensures,
+      left-full h.loop-count.invariant _ from (rest (skipped h)) _ _ (search) s.next-more.result s.next-more.ensures,
     )
 
 put-asked : tie.Need-put_row-requires Inv μ
 put-asked c κs =
     let s : Step = search in
     let h = head s in
-    (λ j l. rw (slots-step s ∙ slots_kept h) ((start h).pre.1.1.1.0 j l), omega (arith, row_in s, h.loop.inv.out_same))
+    (λ j l. rw (slots-step s ∙ slots_kept h) ((start h).requires.1.1.1.0 j l), omega (arith, row_in s, h.loop-count.invariant.out_same))
 
 again : tie.Need-loop-count-preserved Inv μ
 again c =
     let s : Step = search in
     let p : Put = search in
-    fill-again (head s).loop.inv _ _ _ (search) (answered s (not-false _ search)) (iters-step s) (slots-step s) p.put_row.kept.1.1.1.0 p.put_row.ensures
+    fill-again (head s).loop-count.invariant _ _ _ (search) (answered s (not-false _ search)) (iters-step s) (slots-step s) p.put_row.auto.rows p.put_row.ensures
 
 pub show_spec : {M : Type 1} → statement M
 show_spec =
@@ -188,16 +188,16 @@ show_spec =
     (tie.spec
     Inv
     μ
-    (λ c κs. let e : Entry = search in (e.pre.0, (e.pre.1.0, e.pre.1.1.0)))
+    (λ c κs. let e : Entry = search in (e.requires.0, (e.requires.1.0, e.requires.1.1.0)))
     (λ c. let s : Skip = search in iters-kept₁ s)
     (λ c. let s : Skip = search in slots-kept₁ s)
     too_few
-    (λ c. let e : Entry = search in omega (arith, e.pre.1.1.1.1))
+    (λ c. let e : Entry = search in omega (arith, e.requires.1.1.1.1))
     (λ c. let s : Skip = search in fill_start _ _ _ _ _ _ _ s.skip.ensures.ready)
     (λ c κs. let h : Head = search in asked h)
     (λ c. let s : Step = search in iters-step s ∙ iters-kept (head s))
     (λ c. let s : Step = search in slots-step s ∙ slots_kept (head s))
-    (λ c. let h : Head = search in h.loop.inv.out_same)
+    (λ c. let h : Head = search in h.loop-count.invariant.out_same)
     all_shown
     (λ c. let s : Step = search in omega (arith, row_in s, out-low (start (head s))))
     put-asked
@@ -205,7 +205,7 @@ show_spec =
     (λ c. omega arith)
     again
     (λ c κs. let h : Head = search in asked h)
-    (λ c. let s : Last = search in let h : Head = search in s.next2.kept.1.1.1.1.1.0 ∙ iters-kept h)
-    (λ c. let s : Last = search in let h : Head = search in s.next2.kept.1.1.1.1.1.1.0 ∙ slots_kept h)
-    (λ c. let h : Head = search in h.loop.inv.out_same)
+    (λ c. let s : Last = search in let h : Head = search in s.next-more.auto.iters ∙ iters-kept h)
+    (λ c. let s : Last = search in let h : Head = search in s.next-more.auto.slots ∙ slots_kept h)
+    (λ c. let h : Head = search in h.loop-count.invariant.out_same)
     full)

@@ -17,21 +17,21 @@ few : tie.Need-overflow_mul-word_count
 few c = record { fits = omega (arith, (start (written c)).requires.0.promised.few_scans) }
 
 words_fit : tie.Need-slice_bounds-run-end
-words_fit c = let s = (start (written c)).requires in still-fits _ _ _ (room_for s.0 s.1).words_fit (written c).write-plan.auto.1.0
+words_fit c = let s = (start (written c)).requires in still-fits _ _ _ (room_for s.0 s.1).words_fit (written c).write_plan.auto.words
 
 initial_fit : tie.Need-slice_bounds-run-end-3
-initial_fit c = let w = written c in let s = (start w).pre in still-fits _ _ _ (room_for s.0 s.1).initial_fit w.write_plan.kept.1.1.0
+initial_fit c = let w = written c in let s = (start w).requires in still-fits _ _ _ (room_for s.0 s.1).initial_fit w.write_plan.auto.initial
 
 selects_fit : tie.Need-slice_bounds-run-end-5
-selects_fit c = let w = written c in let s = (start w).pre in still-fits _ _ _ (room_for s.0 s.1).selects_fit w.write_plan.kept.1.1.1.0
+selects_fit c = let w = written c in let s = (start w).requires in still-fits _ _ _ (room_for s.0 s.1).selects_fit w.write_plan.auto.selects
 
 slots_fit : tie.Need-slice_bounds-run-end-7
-slots_fit c = let w = written c.before in let s = (start w).pre in still-fits _ _ _ (room_for s.0 s.1).slots_fit w.write_plan.kept.1.1.1.1.0
+slots_fit c = let w = written c.before in let s = (start w).requires in still-fits _ _ _ (room_for s.0 s.1).slots_fit w.write_plan.auto.slots
 
 ready : tie.Need-run-requires
 ready c κs =
     let call = written c.before.before.before in
-    let pre = (start call).pre in
+    let pre = (start call).requires in
     let out = call.write_plan.ensures in
     let ok = pre.0 in
     let w = out.words_are in
@@ -57,15 +57,15 @@ ran c = c.before.before.before.before.before.before
 slots_kept : tie.Need-shape_of-slots
 slots_kept c =
     let w = written_then c in
-    length_front w.write_plan.last.1.1.1.1.0 (ran c).run.new.1.1.1.1.1.1.1.1.0 (start w).args.plan.slot_count
-    (ran c).run.auto.1.1.1.1.1.1.1.1.0
-    ∙ w.write_plan.kept.1.1.1.1.0
+    length_front w.write_plan.new.slots (ran c).run.new.slots (start w).args.plan.slot_count
+    (ran c).run.auto.slots
+    ∙ w.write_plan.auto.slots
 
 shown : tie.Need-returns
 shown c =
     let w = written_then c in
     let out = w.write_plan.ensures in
-    layout-shows (start w).pre.0 _ _ _ out.words_are out.initial_are out.selects_are (start w).args.from _ _ _ _ (ran c).run.ensures
+    layout-shows (start w).requires.0 _ _ _ out.words_are out.initial_are out.selects_are (start w).args.from _ _ _ _ (ran c).run.ensures
 
 pub evaluate_in_spec : {M : Type 1} → statement M
 evaluate_in_spec =
@@ -82,10 +82,10 @@ evaluate_in_spec =
     slots_fit
     (λ c. sym (length-take-le _ _ (slots_fit c.before)))
     ready
-    (λ c. (written_then c).write-plan.auto.1.0)
-    (λ c. (written_then c).write-plan.auto.1.1.0)
-    (λ c. (written_then c).write-plan.auto.1.1.1.0)
-    (λ c. (ran c).run.auto.1.1.1.1.1.1.1.0)
+    (λ c. (written_then c).write_plan.auto.words)
+    (λ c. (written_then c).write_plan.auto.initial)
+    (λ c. (written_then c).write_plan.auto.selects)
+    (λ c. (ran c).run.auto.iters)
     slots_kept
-    (λ c. (ran c).run.auto.1.1.1.1.1.1.1.1.1.0)
+    (λ c. (ran c).run.auto.rows)
     shown)

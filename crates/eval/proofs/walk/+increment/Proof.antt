@@ -76,7 +76,7 @@ module _ {t : ℕ} (c : Entry t) where
   entry-lies = laid-lies c.requires.1.0 c.args.i c.requires.1.1.1.low
 
   iters-low : length c.args.iters.now * 8 < 2 ^ 63
-  iters-low = omega (arith, c.well-formed)
+  iters-low = omega (arith, c.well_formed)
 
 -- where the scan's table is at hand
 abbrev Tabled : ℕ → Type 0
@@ -87,10 +87,10 @@ module _ {t : ℕ} (c : Tabled t) where
   entry = c.before.before.before.before.before.before.before.before.before
 
   abbrev table : List ℕ
-  table = c.get-table.result.now
+  table = c.get_table-table.result.now
 
   table-its : table ≡ table_of (tables entry) (get_or (scans entry) entry.args.i zero_scan).index
-  table-its = table_is (entry-lies entry) _ _ c.get-table.ensures
+  table-its = table_is (entry-lies entry) _ _ c.get_table-table.ensures
 
 -- at the loop's head
 abbrev Head : ℕ → Type 0
@@ -105,23 +105,23 @@ module _ {t : ℕ} (c : Head t) where
 
   abbrev turn :
       Turn (tables start) (scans start) start.args.initial.now start.args.iters.now start.args.slots.now start.args.i
-      c.loop.iters c.loop.slots
-  turn = c.loop.invariant
+      c.loop-iters.iters c.loop-iters.slots
+  turn = c.loop-iters.invariant
 
   abbrev its-position : ℕ
-  its-position = position c.loop.iters start.args.i
+  its-position = position c.loop-iters.iters start.args.i
 
   abbrev its-end : ℕ
-  its-end = ending c.loop.iters start.args.i
+  its-end = ending c.loop-iters.iters start.args.i
 
-  lies : LiesAt start.args.words.now (length c.loop.slots) start.args.i
+  lies : LiesAt start.args.words.now (length c.loop-iters.slots) start.args.i
   lies = rw turn.slots_same (entry-lies start)
 
-  laid : Laid start.args.words.now (length c.loop.slots)
-  laid = rw turn.slots_same start.pre.1.0
+  laid : Laid start.args.words.now (length c.loop-iters.slots)
+  laid = rw turn.slots_same start.requires.1.0
 
   -- the iterator has its two words
-  iter-in : iter_words * start.args.i + 1 < length c.loop.iters
+  iter-in : iter_words * start.args.i + 1 < length c.loop-iters.iters
   iter-in = omega (arith, turn.ready.low, turn.ready.iters_long)
 
   iter-low : (iter_words * start.args.i + 1) * 8 < 2 ^ 63
@@ -132,7 +132,7 @@ module _ {t : ℕ} (c : Head t) where
   rows_in = left_in turn _ (table-its tabled)
 
   rows-low : words * its-end * 8 < 2 ^ 63
-  rows-low = omega (arith, rows_in, tabled.get-table.ok)
+  rows-low = omega (arith, rows_in, tabled.get_table-table.type_inv)
 
 -- where a row was left and the slots are filled
 abbrev Filled : ℕ → Type 0
@@ -147,16 +147,16 @@ module _ {t : ℕ} (c : Outside t) where
   head = c.before.before.before.before.before.before.before
 
   abbrev iters₁ : List ℕ
-  iters₁ = c.increment.new.1.1.1.1.1.1.0
+  iters₁ = c.increment.new.iters
 
   abbrev slots₁ : List ℕ
-  slots₁ = c.increment.new.1.1.1.1.1.1.1.0
+  slots₁ = c.increment.new.slots
 
-  iters-kept : length iters₁ ≡ length head.loop.iters
-  iters-kept = c.increment.auto.1.1.1.1.1.1.0
+  iters-kept : length iters₁ ≡ length head.loop-iters.iters
+  iters-kept = c.increment.auto.iters
 
-  slots_kept : length slots₁ ≡ length head.loop.slots
-  slots_kept = c.increment.auto.1.1.1.1.1.1.1.0
+  slots_kept : length slots₁ ≡ length head.loop-iters.slots
+  slots_kept = c.increment.auto.slots
 
   iter-in₁ : iter_words * (start head).args.i + 1 < length iters₁
   iter-in₁ = omega (arith, iter-in head, iters-kept)
@@ -170,7 +170,7 @@ module _ {t : ℕ} (c : Outside t) where
   -- what the step did, by its answer
   abbrev Answered : Bool → Type 0
   Answered more =
-      Stepped (tables (start head)) (scans (start head)) (start head).args.initial.now head.loop.iters ((start head).args.i - 1) more iters₁ slots₁
+      Stepped (tables (start head)) (scans (start head)) (start head).args.initial.now head.loop-iters.iters ((start head).args.i - 1) more iters₁ slots₁
 
   answered : {more : Bool} → c.increment.result ≡ more → Answered more
   answered e = subst Answered e c.increment.ensures
@@ -181,7 +181,7 @@ Again t = increment-lts.After-get_iter-iter (claims t) (increment-at t) incremen
 
 module _ {t : ℕ} (c : Again t) where
   abbrev outside : Outside t
-  outside = c.before.before.before.before.before.before.before
+  outside = c.before.before.before.before.before.before
 
   took : Answered outside true
   took = answered outside (not-false _ search)
@@ -193,7 +193,7 @@ pub +increment_spec : {M : Type 1} → statement M
     (λ c. let e : Entry t = search in omega (arith, (entry-lies e).whole))
     (λ c. let e : Entry t = search in omega (arith, (entry-lies e).whole))
     (λ c κs. search rules)
-    (λ c. let e : Entry t = search in turn-start _ _ _ _ _ _ e.pre.1.1.1)
+    (λ c. let e : Entry t = search in turn-start _ _ _ _ _ _ e.requires.1.1.1)
     (λ c. omega (arith, iter-low c))
     (λ c. omega (arith, iter-low c))
     (λ c. let h : Head t = search in omega (arith, iter-in h))
@@ -212,8 +212,8 @@ pub +increment_spec : {M : Type 1} → statement M
     (λ c. let h : Head t = search in omega (arith, rows_in h))
     (λ c. let h : Head t = search in omega (arith, rows_in h))
     (λ c κs. let h : Head t = search in (lies h, left-some (turn h) _ (table-its (tabled h)) search))
-    (λ c. let h : Head t = search in length-set h.loop.iters _ _ ∙ (turn h).iters_same)
-    (λ c. let h : Head t = search in let f : Filled t = search in f.fill_slots.kept.1.1.1.0 ∙ (turn h).slots_same)
+    (λ c. let h : Head t = search in length-set h.loop-iters.iters _ _ ∙ (turn h).iters_same)
+    (λ c. let h : Head t = search in let f : Filled t = search in f.fill_slots.auto.slots ∙ (turn h).slots_same)
     (λ c.
     let h : Head t = search in
     let f : Filled t = search in
@@ -224,7 +224,7 @@ pub +increment_spec : {M : Type 1} → statement M
     (λ c. let h : Head t = search in (turn h).slots_same)
     (λ c. let h : Head t = search in turn_end (turn h) (search) c.if-i-eq0.true)
     (λ c. omega arith)
-    (λ c κs. let h : Head t = search in (omega (arith, (start h).pre.0), (laid h, ((start h).pre.1.1.0, turn-ready (turn h)))))
+    (λ c κs. let h : Head t = search in (omega (arith, (start h).requires.0), (laid h, ((start h).requires.1.1.0, turn-ready (turn h)))))
     (λ c. let o : Outside t = search in iters-kept o ∙ (turn (head o)).iters_same)
     (λ c. let o : Outside t = search in slots_kept o ∙ (turn (head o)).slots_same)
     (λ c. let o : Outside t = search in turn-no (turn (head o)) (dry o) (nonzero o) _ _ (answered o (not-true _ c.if-not-increment.true-raw)))
@@ -243,4 +243,4 @@ pub +increment_spec : {M : Type 1} → statement M
     let o = outside c in
     let h = head o in
     turn-again (turn h) (dry o) (nonzero o) _ _ (took c) (iters-kept o) (slots_kept o) _ _ _ c.get_iter-iter.ensures
-    (laid h).sound (start h).pre.1.1.0 (table-its (tabled h)))
+    (laid h).sound (start h).requires.1.1.0 (table-its (tabled h)))
