@@ -6,11 +6,11 @@ use borrow.Author.Rules.{rules}
 use Rattle.ask_plan.proofs.check_types.Statement.{statement}
 use Rattle.ask_plan.proofs.check_types.Tie as tie
 
-pub check-types-spec : {M : Type 1} → statement M
-check-types-spec =
+pub check_types_spec : {M : Type 1} → statement M
+check_types_spec =
     tie.close
     (tie.spec
     (λ c κs. search rules)
-    (λ c. types-unasked _ _ _ (sym c.before.checks-types.ensures ∙ not-true _ c.if1.true))
+    (λ c. types-unasked _ _ _ (sym c.checks_types.ensures ∙ not-true _ c.if-not-checks_types.true-raw))
     (λ c κs. search rules)
-    (λ c. types-checked _ _ _ _ (sym c.before.before.checks-types.ensures ∙ not-false _ c.before.if1.false) c.infer-types.ensures))
+    (λ c. types-checked _ _ _ _ (sym c.checks_types.ensures ∙ not-false _ c.if-not-checks_types.false-raw) c.infer_types-inferred.ensures))

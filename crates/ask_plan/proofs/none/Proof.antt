@@ -8,4 +8,4 @@ none_spec =
     tie.close
     (tie.spec
     (λ c κs. search rules)
-    (λ c. rw c.empty.ensures))
+    (λ c. rw c.empty-plan.ensures))

@@ -5,14 +5,14 @@ use borrow.Author.Rules.{rules}
 use Rattle.ask_plan.proofs.plan_asked.Statement.{statement}
 use Rattle.ask_plan.proofs.plan_asked.Tie as tie
 
-pub plan-asked-spec : {M : Type 1} → statement M
-plan-asked-spec =
+pub plan_asked_spec : {M : Type 1} → statement M
+plan_asked_spec =
     tie.close
     (tie.spec
     (λ c κs. search rules)
     (λ c. search rules)
     (λ c κs. search rules)
-    (λ c. c.none.ensures ∙ answer-refused _ _ _ _ c.before.before.before.check-types.ensures c.before.enum_told.given.1)
+    (λ c. c.none.ensures ∙ answer-refused _ _ _ _ c.check_types-verdict.ensures c.in-Refused.is)
     (λ c. search rules)
     (λ c κs. search rules)
-    (λ c. c.plan-with-cost.ensures ∙ answer-fine _ _ _ _ c.before.before.before.check-types.ensures c.before.enum-told2.given.1))
+    (λ c. c.plan_with_cost.ensures ∙ answer-fine _ _ _ _ c.check_types-verdict.ensures c.in_default.is))

@@ -5,17 +5,14 @@ use borrow.Author.Rules.{rules}
 use Rattle.ask_plan.proofs.plan_for.Statement.{statement}
 use Rattle.ask_plan.proofs.plan_for.Tie as tie
 
-pub plan-for-spec : {M : Type 1} → statement M
-plan-for-spec =
+pub plan_for_spec : {M : Type 1} → statement M
+plan_for_spec =
     tie.close
     (tie.spec
     (λ c κs. search rules)
     (λ c κs. search rules)
     (λ c.
-    let s = c.before in
-    let t = s.before in
-    planned-search _ _ _ (sym t.before.searches.ensures ∙ t.if1.true) s.search-query.ensures)
+    planned-search _ _ _ (sym c.searches.ensures ∙ c.if-searches.true) c.search_query-found.ensures)
     (λ c κs. search rules)
     (λ c.
-    let t = c.before in
-    planned-given _ _ _ (sym t.before.searches.ensures ∙ t.if1.false) c.plan-query.ensures))
+    planned-given _ _ _ (sym c.searches.ensures ∙ c.if-searches.false) c.plan_query.ensures))

@@ -5,16 +5,15 @@ use borrow.Author.Rules.{rules}
 use Rattle.ask_plan.proofs.plan_with_cost.Statement.{statement}
 use Rattle.ask_plan.proofs.plan_with_cost.Tie as tie
 
-pub plan-with-cost-spec : {M : Type 1} → statement M
-plan-with-cost-spec =
+pub plan_with_cost_spec : {M : Type 1} → statement M
+plan_with_cost_spec =
     tie.close
     (tie.spec
     (λ c κs. search rules)
     (λ c. search rules)
     (λ c κs. search rules)
-    (λ c. c.none.ensures ∙ with-cost-refused _ _ _ c.before.before.before.plan-for.ensures c.before.enum_told.given.1)
+    (λ c. c.none.ensures ∙ with-cost-refused _ _ _ c.plan_for-planned.ensures c.in-Refused.is)
     (λ c. search rules)
     (λ c κs. search rules)
     (λ c.
-    let t = c.before.before in
-    c.with-cost.ensures ∙ with-cost-fine _ _ _ t.before.before.plan-for.ensures t.enum-told2.given.1))
+    c.with_cost.ensures ∙ with-cost-fine _ _ _ c.plan_for-planned.ensures c.in_default.is))

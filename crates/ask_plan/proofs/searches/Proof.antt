@@ -5,13 +5,13 @@ use Rattle.ask_plan.specs.Answer.{searches}
 use Rattle.ask_plan.proofs.searches.Statement.{statement}
 use Rattle.ask_plan.proofs.searches.Tie as tie
 
-first : tie.Need-returns
+first : tie.Need-returns-then-task-eq-SEARCH
 unfolding searches
-first c = rw (eq-eqb _ 1 c.if1.true) refl
+first c = rw (eq-eqb _ 1 c.if-task-eq-SEARCH.true) refl
 
-second : tie.Need-returns-2
+second : tie.Need-returns-else-task-eq-SEARCH
 unfolding searches
-second c = rw (ne_eqb _ 1 c.if1.false) refl
+second c = rw (ne_eqb _ 1 c.if-task-eq-SEARCH.false) refl
 
-pub searches-spec : {M : Type 1} → statement M
-searches-spec = tie.close (tie.spec first second)
+pub searches_spec : {M : Type 1} → statement M
+searches_spec = tie.close (tie.spec first second)

@@ -5,13 +5,13 @@ use borrow.Author.Rules.{rules}
 use Rattle.ask_plan.proofs.with_cost.Statement.{statement}
 use Rattle.ask_plan.proofs.with_cost.Tie as tie
 
-pub with-cost-spec : {M : Type 1} → statement M
-with-cost-spec =
+pub with_cost_spec : {M : Type 1} → statement M
+with_cost_spec =
     tie.close
     (tie.spec
     (λ c κs. search rules)
     (λ c. search rules)
     (λ c κs. search rules)
-    (λ c. c.none.ensures ∙ costed-refused _ _ c.before.before.before.cost.ensures c.before.enum_told.given.1)
+    (λ c. c.none.ensures ∙ costed-refused _ _ c.cost-costed.ensures c.in-Refused.is)
     (λ c. search rules)
-    (λ c. costed-fine _ _ c.before.before.cost.ensures c.enum-told2.given.1))
+    (λ c. costed-fine _ _ c.cost-costed.ensures c.in_default.is))

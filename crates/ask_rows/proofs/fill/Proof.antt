@@ -11,18 +11,18 @@ use Rattle.ask_rows.proofs.fill.Tie as tie
 
 -- there is room for as many selects as a plan can have
 many_selects : (c : tie.Start) → length c.args.plan.select ≡ max_selects
-many_selects c = simp length-map at c.well-formed.0.1.1.1.1.1.1.0.1.0.1
+many_selects c = search rules
 
-slice-relend-prefix-evaluate : tie.Need-slice-relend-prefix-evaluate
-slice-relend-prefix-evaluate c = let a = c.before.before.before.before.before.args in omega (arith, c.room_for.ensures, room_within a.left a.plan.select_count (length a.rows.now))
+slice-relend-prefix-evaluate : tie.Need-slice_bounds-evaluate-end
+slice-relend-prefix-evaluate c = let a = c.args in omega (arith, c.room_for-room.ensures, room_within a.left a.plan.select_count (length a.rows.now))
 
-slice-aggregate-evaluate : tie.Need-slice-aggregate-evaluate
-slice-aggregate-evaluate c = let a = c.before.before.before.before.before.before.args in sym (length-take-le _ _ (omega (arith, c.before.room_for.ensures, room_within a.left a.plan.select_count (length a.rows.now))))
+slice-aggregate-evaluate : tie.Need-slice_bounds-evaluate-end-2
+slice-aggregate-evaluate c = let a = c.args in sym (length-take-le _ _ (omega (arith, c.room_for-room.ensures, room_within a.left a.plan.select_count (length a.rows.now))))
 
 returns : tie.Need-returns
 returns c =
-    let a = c.before.before.before.before.before.before.before.before.before.args in
-    fills a.plan _ (many_selects c.before.before.before.before.before.before.before.before.before) a.from a.left a.rows.now _ c.before.before.before.before.room_for.ensures _ _ c.before.before.evaluate.ensures.0 c.before.before.evaluate.ensures.1
+    let a = c.args in
+    fills a.plan _ (many_selects c.before.before.before.before.before.before.before.before.before) a.from a.left a.rows.now _ c.room_for-room.ensures _ _ c.evaluate.ensures.0 c.evaluate.ensures.1
 
 pub fill_spec : {M : Type 1} → statement M
 fill_spec =

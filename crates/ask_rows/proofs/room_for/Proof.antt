@@ -5,21 +5,21 @@ use borrow.Author.Rules.{rules}
 use Rattle.ask_rows.proofs.room_for.Statement.{statement}
 use Rattle.ask_rows.proofs.room_for.Tie as tie
 
-returns : tie.Need-returns
-returns c = room-none _ _ _ c.if1.true
+returns : tie.Need-returns-then-width-eq0
+returns c = room-none _ _ _ c.if-width-eq0.true
 
-mul-result : tie.Need-overflow-mul-result
-mul-result c = let a = c.before.before.args in let e = room-least a.left a.width a.size c.if2.true in record { fits = omega (arith, e, room_within a.left a.width a.size) }
+mul-result : tie.Need-overflow_mul-result
+mul-result c = let a = c.args in let e = room-least a.left a.width a.size c.if-left-fitting.true in record { fits = omega (arith, e, room_within a.left a.width a.size) }
 
-returns-2 : tie.Need-returns-2
-returns-2 c = room-least _ _ _ c.if2.true
+returns-2 : tie.Need-returns-then-left-fitting
+returns-2 c = room-least _ _ _ c.if-left-fitting.true
 
-mul-result-2 : tie.Need-overflow-mul-result-2
-mul-result-2 c = let a = c.before.before.args in let e = room-all a.left a.width a.size c.if2.false in record { fits = omega (arith, e, room_within a.left a.width a.size) }
+mul-result-2 : tie.Need-overflow_mul-result-2
+mul-result-2 c = let a = c.args in let e = room-all a.left a.width a.size c.if-left-fitting.false in record { fits = omega (arith, e, room_within a.left a.width a.size) }
 
-returns-3 : tie.Need-returns-3
-returns-3 c = room-all _ _ _ c.if2.false
+returns-3 : tie.Need-returns
+returns-3 c = room-all _ _ _ c.if-left-fitting.false
 
-pub room-for-spec : {M : Type 1} → statement M
-room-for-spec =
+pub room_for_spec : {M : Type 1} → statement M
+room_for_spec =
     tie.close (tie.spec returns (λ c. search rules) mul-result returns-2 mul-result-2 returns-3)

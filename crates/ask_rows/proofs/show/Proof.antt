@@ -4,17 +4,17 @@ use borrow.Author.Rules.{rules}
 use Rattle.ask_rows.proofs.show.Statement.{statement}
 use Rattle.ask_rows.proofs.show.Tie as tie
 
-returns : tie.Need-returns
-returns c = refused-shows c.before.before.before.before.fill.ensures c.enum_told.given.1
+returns : tie.Need-returns-in-Refused
+returns c = refused-shows c.fill-evaluated.ensures c.in-Refused.is
 
-returns-2 : tie.Need-returns-2
+returns-2 : tie.Need-returns
 returns-2 c =
-    let rows = c.before.before.before.before.before.before.before.write-rows.ensures in
-    let fine = c.before.before.before.before.before.before.before.before.before.before.enum-told2.given.1 in
-    shows c.before.before.before.before.before.before.before.before.before.before.before.before.before.before.fill.ensures fine rows.0 rows.1 _ c.before.before.before.before.advance.ensures c.before.before.write-end.ensures
+    let rows = c.write_rows-at.ensures in
+    let fine = c.in_default.is in
+    shows c.fill-evaluated.ensures fine rows.0 rows.1 _ c.advance-step.ensures c.write_end-length.ensures
 
-pub show-spec : {M : Type 1} → statement M
-show-spec =
+pub show_spec : {M : Type 1} → statement M
+show_spec =
     tie.close
     (tie.spec
     (λ c κs. search rules)
