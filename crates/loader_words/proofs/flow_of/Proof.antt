@@ -4,11 +4,11 @@ use borrow.Author.Rules.{rules}
 use Rattle.loader_words.proofs.flow_of.Statement.{statement}
 use Rattle.loader_words.proofs.flow_of.Tie as tie
 
-pub flow-of-spec : {M : Type 1} → statement M
-flow-of-spec =
+pub flow_of_spec : {M : Type 1} → statement M
+flow_of_spec =
     tie.close
     (tie.spec
     (λ c κs. search rules)
-    (λ c. rw (← c.before.is-no-kind.ensures, c.if1.true) refl)
+    (λ c. rw (← c.is_no_kind.ensures, c.if-is_no_kind.true) refl)
     (λ c κs. search rules)
-    (λ c. rw (← c.before.before.is-no-kind.ensures, c.before.if1.false) c.flow-of-code.ensures))
+    (λ c. rw (← c.is_no_kind.ensures, c.if-is_no_kind.false) c.flow_of_code.ensures))

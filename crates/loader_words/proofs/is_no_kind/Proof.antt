@@ -4,5 +4,5 @@ use borrow.Author.Tests.{lt-ltb, le-ltb}
 use Rattle.loader_words.proofs.is_no_kind.Statement.{statement}
 use Rattle.loader_words.proofs.is_no_kind.Tie as tie
 
-pub is-no-kind-spec : {M : Type 1} → statement M
-is-no-kind-spec = tie.close (tie.spec (λ c. rw (lt-ltb 2 _ c.if1.true) refl) (λ c. rw (le-ltb 2 _ c.if1.false) refl))
+pub is_no_kind_spec : {M : Type 1} → statement M
+is_no_kind_spec = tie.close (tie.spec (λ c. rw (lt-ltb 2 _ c.if-index-gt-EAVT.true) refl) (λ c. rw (le-ltb 2 _ c.if-index-gt-EAVT.false) refl))

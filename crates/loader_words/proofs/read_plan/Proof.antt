@@ -4,8 +4,8 @@ use borrow.Author.Rules.{rules}
 use Rattle.loader_words.proofs.read_plan.Statement.{statement}
 use Rattle.loader_words.proofs.read_plan.Tie as tie
 
-pub read-plan-spec : {M : Type 1} → statement M
-read-plan-spec =
+pub read_plan_spec : {M : Type 1} → statement M
+read_plan_spec =
     tie.close
     (tie.spec
     (λ c κs. search rules)
@@ -14,4 +14,4 @@ read-plan-spec =
     (λ c. search rules)
     (λ c. search rules)
     (λ c. search rules)
-    (λ c. rw (c.before.before.before.before.before.read-scans.ensures, c.before.before.before.before.read-slots.ensures, c.before.before.before.read-select.ensures) refl))
+    (λ c. rw (c.read_scans-scans.ensures, c.read_slots-slots.ensures, c.read_select-select.ensures) refl))

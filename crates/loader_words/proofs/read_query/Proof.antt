@@ -4,8 +4,8 @@ use borrow.Author.Rules.{rules}
 use Rattle.loader_words.proofs.read_query.Statement.{statement}
 use Rattle.loader_words.proofs.read_query.Tie as tie
 
-pub read-query-spec : {M : Type 1} → statement M
-read-query-spec =
+pub read_query_spec : {M : Type 1} → statement M
+read_query_spec =
     tie.close
     (tie.spec
     (λ c κs. search rules)
@@ -13,4 +13,4 @@ read-query-spec =
     (λ c. search rules)
     (λ c. search rules)
     (λ c. search rules)
-    (λ c. rw (c.before.before.before.before.read-statements.ensures, c.before.before.before.read-variables.ensures) refl))
+    (λ c. rw (c.read_statements-statements.ensures, c.read_variables-variables.ensures) refl))

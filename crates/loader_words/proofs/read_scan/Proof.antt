@@ -4,8 +4,8 @@ use borrow.Author.Rules.{rules}
 use Rattle.loader_words.proofs.read_scan.Statement.{statement}
 use Rattle.loader_words.proofs.read_scan.Tie as tie
 
-pub read-scan-spec : {M : Type 1} → statement M
-read-scan-spec =
+pub read_scan_spec : {M : Type 1} → statement M
+read_scan_spec =
     tie.close
     (tie.spec
     (λ c. search rules)
@@ -28,4 +28,4 @@ read-scan-spec =
     (λ c. search rules)
     (λ c. search rules)
     (λ c κs. search rules)
-    (λ c. rw (c.before.before.before.before.before.before.index_of.ensures, c.before.before.before.before.before.flow-of.ensures, c.before.before.before.short.ensures, c.short2.ensures) refl))
+    (λ c. rw (c.index_of.ensures, c.flow_of.ensures, c.short.ensures, c.short-2.ensures) refl))

@@ -11,20 +11,20 @@ use Rattle.lists.proofs.Tabled.{tabled-none, tabled-more, tabled-all}
 use Rattle.loader_words.proofs.read_scans.Statement.{statement}
 use Rattle.loader_words.proofs.read_scans.Tie as tie
 
-abbrev Inv : tie.invariant-loop
+abbrev Inv : tie.invariant-loop-i
 Inv words scans₀ i₀ scans i = (i ≤ max_scans) × (length scans ≡ max_scans) × (take i scans ≡ tabled (scan_at words) i)
 
-abbrev μ : tie.decreases-loop
+abbrev μ : tie.decreases-loop-i
 μ words scans₀ i₀ scans i = max_scans - i
 
-again : tie.Need-loop-preserved Inv μ
+again : tie.Need-loop-i-preserved Inv μ
 again c =
-    let l = c.before.before.loop in
-    let ws = c.before.before.before.args.words.now in
-    (omega arith, length-set l.scans _ _ ∙ l.invariant.1, tabled-more (scan_at ws) l.scans l.i _ (omega arith) c.read-scan.ensures l.invariant.2)
+    let l = c.loop-i in
+    let ws = c.args.words.now in
+    (omega arith, length-set l.scans _ _ ∙ l.invariant.1, tabled-more (scan_at ws) l.scans l.i _ (omega arith) c.read_scan.ensures l.invariant.2)
 
-pub read-scans-spec : {M : Type 1} → statement M
-read-scans-spec =
+pub read_scans_spec : {M : Type 1} → statement M
+read_scans_spec =
     tie.close
     (tie.spec
     Inv
@@ -36,4 +36,4 @@ read-scans-spec =
     (λ c. search rules)
     (λ c. search rules)
     again
-    (λ c. tabled-all _ _ c.before.loop.i _ c.before.loop.invariant.1 (omega arith) c.before.loop.invariant.2))
+    (λ c. tabled-all _ _ c.loop-i.i _ c.loop-i.invariant.1 (omega arith) c.loop-i.invariant.2))

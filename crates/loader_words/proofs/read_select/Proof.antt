@@ -11,20 +11,20 @@ use Rattle.lists.proofs.Tabled.{tabled-none, tabled-more, tabled-all}
 use Rattle.loader_words.proofs.read_select.Statement.{statement}
 use Rattle.loader_words.proofs.read_select.Tie as tie
 
-abbrev Inv : tie.invariant-loop
+abbrev Inv : tie.invariant-loop-i
 Inv words select₀ i₀ select i = (i ≤ max_selects) × (length select ≡ max_selects) × (take i select ≡ tabled (selected_at words) i)
 
-abbrev μ : tie.decreases-loop
+abbrev μ : tie.decreases-loop-i
 μ words select₀ i₀ select i = max_selects - i
 
-again : tie.Need-loop-preserved Inv μ
+again : tie.Need-loop-i-preserved Inv μ
 again c =
-    let l = c.before.before.loop in
-    let ws = c.before.before.before.args.words.now in
-    (omega arith, length-set l.select _ _ ∙ l.invariant.1, tabled-more (selected_at ws) l.select l.i _ (omega arith) c.read-selected.ensures l.invariant.2)
+    let l = c.loop-i in
+    let ws = c.args.words.now in
+    (omega arith, length-set l.select _ _ ∙ l.invariant.1, tabled-more (selected_at ws) l.select l.i _ (omega arith) c.read_selected.ensures l.invariant.2)
 
-pub read-select-spec : {M : Type 1} → statement M
-read-select-spec =
+pub read_select_spec : {M : Type 1} → statement M
+read_select_spec =
     tie.close
     (tie.spec
     Inv
@@ -36,4 +36,4 @@ read-select-spec =
     (λ c. search rules)
     (λ c. search rules)
     again
-    (λ c. tabled-all _ _ c.before.loop.i _ c.before.loop.invariant.1 (omega arith) c.before.loop.invariant.2))
+    (λ c. tabled-all _ _ c.loop-i.i _ c.loop-i.invariant.1 (omega arith) c.loop-i.invariant.2))

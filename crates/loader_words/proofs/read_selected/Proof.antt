@@ -4,8 +4,8 @@ use borrow.Author.Rules.{rules}
 use Rattle.loader_words.proofs.read_selected.Statement.{statement}
 use Rattle.loader_words.proofs.read_selected.Tie as tie
 
-pub read-selected-spec : {M : Type 1} → statement M
-read-selected-spec =
+pub read_selected_spec : {M : Type 1} → statement M
+read_selected_spec =
     tie.close
     (tie.spec
     (λ c. search rules)

@@ -4,8 +4,8 @@ use borrow.Author.Rules.{rules}
 use Rattle.loader_words.proofs.read_slot.Statement.{statement}
 use Rattle.loader_words.proofs.read_slot.Tie as tie
 
-pub read-slot-spec : {M : Type 1} → statement M
-read-slot-spec =
+pub read_slot_spec : {M : Type 1} → statement M
+read_slot_spec =
     tie.close
     (tie.spec
     (λ c. search rules)
@@ -16,4 +16,4 @@ read-slot-spec =
     (λ c. search rules)
     (λ c. search rules)
     (λ c κs. search rules)
-    (λ c. rw c.definition-of.ensures refl))
+    (λ c. rw c.definition_of.ensures refl))

@@ -11,20 +11,20 @@ use Rattle.lists.proofs.Tabled.{tabled-none, tabled-more, tabled-all}
 use Rattle.loader_words.proofs.read_slots.Statement.{statement}
 use Rattle.loader_words.proofs.read_slots.Tie as tie
 
-abbrev Inv : tie.invariant-loop
+abbrev Inv : tie.invariant-loop-i
 Inv words slots₀ i₀ slots i = (i ≤ max_slots) × (length slots ≡ max_slots) × (take i slots ≡ tabled (slot_at words) i)
 
-abbrev μ : tie.decreases-loop
+abbrev μ : tie.decreases-loop-i
 μ words slots₀ i₀ slots i = max_slots - i
 
-again : tie.Need-loop-preserved Inv μ
+again : tie.Need-loop-i-preserved Inv μ
 again c =
-    let l = c.before.before.loop in
-    let ws = c.before.before.before.args.words.now in
-    (omega arith, length-set l.slots _ _ ∙ l.invariant.1, tabled-more (slot_at ws) l.slots l.i _ (omega arith) c.read-slot.ensures l.invariant.2)
+    let l = c.loop-i in
+    let ws = c.args.words.now in
+    (omega arith, length-set l.slots _ _ ∙ l.invariant.1, tabled-more (slot_at ws) l.slots l.i _ (omega arith) c.read_slot.ensures l.invariant.2)
 
-pub read-slots-spec : {M : Type 1} → statement M
-read-slots-spec =
+pub read_slots_spec : {M : Type 1} → statement M
+read_slots_spec =
     tie.close
     (tie.spec
     Inv
@@ -36,4 +36,4 @@ read-slots-spec =
     (λ c. search rules)
     (λ c. search rules)
     again
-    (λ c. tabled-all _ _ c.before.loop.i _ c.before.loop.invariant.1 (omega arith) c.before.loop.invariant.2))
+    (λ c. tabled-all _ _ c.loop-i.i _ c.loop-i.invariant.1 (omega arith) c.loop-i.invariant.2))

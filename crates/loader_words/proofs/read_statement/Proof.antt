@@ -4,8 +4,8 @@ use borrow.Author.Rules.{rules}
 use Rattle.loader_words.proofs.read_statement.Statement.{statement}
 use Rattle.loader_words.proofs.read_statement.Tie as tie
 
-pub read-statement-spec : {M : Type 1} → statement M
-read-statement-spec =
+pub read_statement_spec : {M : Type 1} → statement M
+read_statement_spec =
     tie.close
     (tie.spec
     (λ c. search rules)
@@ -23,4 +23,4 @@ read-statement-spec =
     (λ c. search rules)
     (λ c. search rules)
     (λ c κs. search rules)
-    (λ c. rw (c.before.before.before.before.short.ensures, c.value_of.ensures) refl))
+    (λ c. rw (c.short.ensures, c.value_of.ensures) refl))

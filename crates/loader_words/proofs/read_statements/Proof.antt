@@ -11,20 +11,20 @@ use Rattle.lists.proofs.Tabled.{tabled-none, tabled-more, tabled-all}
 use Rattle.loader_words.proofs.read_statements.Statement.{statement}
 use Rattle.loader_words.proofs.read_statements.Tie as tie
 
-abbrev Inv : tie.invariant-loop
+abbrev Inv : tie.invariant-loop-i
 Inv words statements₀ i₀ statements i = (i ≤ max_statements) × (length statements ≡ max_statements) × (take i statements ≡ tabled (statement_at words) i)
 
-abbrev μ : tie.decreases-loop
+abbrev μ : tie.decreases-loop-i
 μ words statements₀ i₀ statements i = max_statements - i
 
-again : tie.Need-loop-preserved Inv μ
+again : tie.Need-loop-i-preserved Inv μ
 again c =
-    let l = c.before.before.loop in
-    let ws = c.before.before.before.args.words.now in
-    (omega arith, length-set l.statements _ _ ∙ l.invariant.1, tabled-more (statement_at ws) l.statements l.i _ (omega arith) c.read-statement.ensures l.invariant.2)
+    let l = c.loop-i in
+    let ws = c.args.words.now in
+    (omega arith, length-set l.statements _ _ ∙ l.invariant.1, tabled-more (statement_at ws) l.statements l.i _ (omega arith) c.read_statement.ensures l.invariant.2)
 
-pub read-statements-spec : {M : Type 1} → statement M
-read-statements-spec =
+pub read_statements_spec : {M : Type 1} → statement M
+read_statements_spec =
     tie.close
     (tie.spec
     Inv
@@ -36,4 +36,4 @@ read-statements-spec =
     (λ c. search rules)
     (λ c. search rules)
     again
-    (λ c. tabled-all _ _ c.before.loop.i _ c.before.loop.invariant.1 (omega arith) c.before.loop.invariant.2))
+    (λ c. tabled-all _ _ c.loop-i.i _ c.loop-i.invariant.1 (omega arith) c.loop-i.invariant.2))

@@ -4,8 +4,8 @@ use borrow.Author.Rules.{rules}
 use Rattle.loader_words.proofs.read_variable.Statement.{statement}
 use Rattle.loader_words.proofs.read_variable.Tie as tie
 
-pub read-variable-spec : {M : Type 1} → statement M
-read-variable-spec =
+pub read_variable_spec : {M : Type 1} → statement M
+read_variable_spec =
     tie.close
     (tie.spec
     (λ c. search rules)

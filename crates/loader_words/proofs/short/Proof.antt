@@ -6,8 +6,8 @@ use mathlib.Core.Path.{sym}
 use Rattle.loader_words.proofs.short.Statement.{statement}
 use Rattle.loader_words.proofs.short.Tie as tie
 
-pub short-spec : {M : Type 1} → statement M
-short-spec =
+pub short_spec : {M : Type 1} → statement M
+short_spec =
     tie.close
     (tie.spec
     (λ c. search rules)
