@@ -3,7 +3,7 @@ use mathlib.Core.Path.{◌≡◌, refl, sym, ◌∙◌, subst}
 use Prim.Native.Nat.{◌≤◌}
 use native.Mathlib.Omega.{arith}
 use mathlib.Core.List.{List}
-use lib.ListN.{length, length-map}
+use lib.ListN.{length}
 use lib.Seq.{length-take-le}
 use mir.Val.{Val}
 use denote.Laws.{Is}
@@ -25,12 +25,12 @@ use Rattle.planner_lent.proofs.Agree.{lent-agrees}
 module _ (q : Query) (vs : List Val) (is : Is Q.the_row q vs) where
   pub statements-counted : q.where_statements.count ≤ max_statements → q.where_statements.count ≡ length (statements_of q)
   statements-counted few =
-      let room : length q.where_statements.items ≡ max_statements = simp length-map at (LL.owed S.the_type S'.the_laws q.where_statements _ (LL.owed Q.the_type Q'.the_laws q vs is).1.0).0.1.0.1 in
+      let room : length q.where_statements.items ≡ max_statements = (LL.owed S.the_type S'.the_laws q.where_statements _ (LL.owed Q.the_type Q'.the_laws q vs is).1.0).0.1.0.1 in
       sym (length-take-le _ _ (omega (arith, room, few)))
 
   pub selects-counted : q.select.count ≤ max_selects → q.select.count ≡ length (selects_of q)
   selects-counted few =
-      let room : length q.select.items ≡ max_selects = simp length-map at (LL.owed L.the_type L'.the_laws q.select _ (LL.owed Q.the_type Q'.the_laws q vs is).1.1.0).0.1.0.1 in
+      let room : length q.select.items ≡ max_selects = (LL.owed L.the_type L'.the_laws q.select _ (LL.owed Q.the_type Q'.the_laws q vs is).1.1.0).0.1.0.1 in
       sym (length-take-le _ _ (omega (arith, room, few)))
 
   pub planned-whole : q.where_statements.count ≤ max_statements → q.select.count ≤ max_selects → {r : Planned} → r ≡ plan_lent q.variable_count (statements_of q) (selects_of q) → r ≡ plan_of q

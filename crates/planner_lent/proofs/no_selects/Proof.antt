@@ -11,5 +11,5 @@ use Rattle.planner_lent.proofs.no_selects.Tie as tie
 nothing_read : tie.Need-returns
 nothing_read c = ap (λ (l : List Var). record { items = l; count = 0 }) (sym (padded-none zero_var max_selects))
 
-pub no-selects-spec : {M : Type 1} → statement M
-no-selects-spec = tie.close (tie.spec nothing_read)
+pub no_selects_spec : {M : Type 1} → statement M
+no_selects_spec = tie.close (tie.spec nothing_read)

@@ -11,5 +11,5 @@ use Rattle.planner_lent.proofs.no_statements.Tie as tie
 nothing_read : tie.Need-returns
 nothing_read c = ap (λ (l : List Statement). record { items = l; count = 0 }) (sym (padded-none zero_statement max_statements))
 
-pub no-statements-spec : {M : Type 1} → statement M
-no-statements-spec = tie.close (tie.spec nothing_read)
+pub no_statements_spec : {M : Type 1} → statement M
+no_statements_spec = tie.close (tie.spec nothing_read)

@@ -5,11 +5,9 @@ use Rattle.planner_lent.proofs.Whole.{planned-whole}
 use Rattle.planner_lent.proofs.plan_query.Statement.{statement}
 use Rattle.planner_lent.proofs.plan_query.Tie as tie
 
-lent : tie.Need-returns-3
+lent : tie.Need-returns
 lent c =
-    let few = c.before.before.before in
-    let start = few.before.before.before.before in
-    planned-whole start.args.query _ start.well-formed.0 (omega (arith, few.before.if1.false)) (omega (arith, few.if2.false)) c.lend.ensures
+    planned-whole c.args.query _ c.well_formed.0 (omega (arith, c.if-count-gt-MAX_STATEMENTS.false)) (omega (arith, c.if-select_count-gt-MAX_SELECTS.false)) c.lend.ensures
 
-pub plan-query-spec : {M : Type 1} → statement M
-plan-query-spec = tie.close (tie.spec (λ c κs. search rules) (λ c. search rules) (λ c κs. search rules) (λ c. search rules) (λ c κs. search rules) lent)
+pub plan_query_spec : {M : Type 1} → statement M
+plan_query_spec = tie.close (tie.spec (λ c κs. search rules) (λ c. search rules) (λ c κs. search rules) (λ c. search rules) (λ c κs. search rules) lent)

@@ -4,7 +4,7 @@ use Prim.Native.Nat.{◌+◌}
 use mathlib.Core.List.{List}
 use native.Mathlib.Omega.{arith}
 use borrow.Author.Rules.{rules}
-use lib.ListN.{length, length-map}
+use lib.ListN.{length}
 use lib.Seq.{set_out}
 use denote.Struct.Laws as LL
 use Rattle.capacity.specs.Capacity.{max_selects}
@@ -14,11 +14,11 @@ use Rattle.query.proofs.Selects.TheLaws as S'
 use Rattle.planner_lent.proofs.push_select.Statement.{statement}
 use Rattle.planner_lent.proofs.push_select.Tie as tie
 
-past : tie.Need-returns
+past : tie.Need-returns-then-n-ge-MAX_SELECTS
 past c =
-    let a = c.before.before.args in
-    let h : length a.selects.items ≡ max_selects = simp length-map at (LL.owed S.the_type S'.the_laws a.selects _ c.before.before.well-formed.0).0.1.0.1 in
+    let a = c.args in
+    let h : length a.selects.items ≡ max_selects = (LL.owed S.the_type S'.the_laws a.selects _ c.well_formed.0).0.1.0.1 in
     ap (λ (l : List Var). record { items = l; count = a.selects.count + 1 }) (sym (set_out _ _ _ (omega arith)))
 
-pub push-select-spec : {M : Type 1} → statement M
-push-select-spec = tie.close (tie.spec (λ c. search rules) past (λ c. search rules) (λ c. search rules) (λ c. search rules))
+pub push_select_spec : {M : Type 1} → statement M
+push_select_spec = tie.close (tie.spec (λ c. search rules) past (λ c. search rules) (λ c. search rules) (λ c. search rules))

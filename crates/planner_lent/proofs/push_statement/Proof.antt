@@ -4,7 +4,7 @@ use Prim.Native.Nat.{◌+◌}
 use mathlib.Core.List.{List}
 use native.Mathlib.Omega.{arith}
 use borrow.Author.Rules.{rules}
-use lib.ListN.{length, length-map}
+use lib.ListN.{length}
 use lib.Seq.{set_out}
 use denote.Struct.Laws as LL
 use Rattle.capacity.specs.Capacity.{max_statements}
@@ -14,11 +14,11 @@ use Rattle.query.proofs.Statements.TheLaws as S'
 use Rattle.planner_lent.proofs.push_statement.Statement.{statement}
 use Rattle.planner_lent.proofs.push_statement.Tie as tie
 
-past : tie.Need-returns
+past : tie.Need-returns-then-n-ge-MAX_STATEMENTS
 past c =
-    let a = c.before.before.args in
-    let h : length a.statements.items ≡ max_statements = simp length-map at (LL.owed S.the_type S'.the_laws a.statements _ c.before.before.well-formed.0).0.1.0.1 in
+    let a = c.args in
+    let h : length a.statements.items ≡ max_statements = (LL.owed S.the_type S'.the_laws a.statements _ c.well_formed.0).0.1.0.1 in
     ap (λ (l : List Statement). record { items = l; count = a.statements.count + 1 }) (sym (set_out _ _ _ (omega arith)))
 
-pub push-statement-spec : {M : Type 1} → statement M
-push-statement-spec = tie.close (tie.spec (λ c. search rules) past (λ c. search rules) (λ c. search rules) (λ c. search rules))
+pub push_statement_spec : {M : Type 1} → statement M
+push_statement_spec = tie.close (tie.spec (λ c. search rules) past (λ c. search rules) (λ c. search rules) (λ c. search rules))
