@@ -1,6 +1,6 @@
-/* The query planner and evaluator for the bootloader: the public calls from C. Link target/staticlib/libloader.a (`rt staticlib loader`).
+/* The query planner and evaluator for the bootloader: the public calls from C. Link target/staticlib/libloader.a (`./archive loader`).
 
-   Every call is proved to return, for any words, and to do exactly what is said here (crates/loader, docs/PROMISES.md). What the proof
+   Every call is proved to return, for any words, and to do exactly what is said here (crates/loader_c, docs/PROMISES.md). What the proof
    takes for granted is C's part, and yours:
    - Each pointer to a struct or an array points to a whole one; each pointer with a length to so many elements, aligned, also where the
      length is 0 (then any pointer but NULL will do).

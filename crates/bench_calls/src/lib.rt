@@ -1,12 +1,11 @@
-// Evaluation, the search and the builder of tables as C functions, for the benchmarks (bench/run). A plan or a query comes as decimal numbers (`replay_given`).
+// Evaluation, the search and the builder of tables, for the benchmarks (bench/run); the crate `bench_calls_c` has them as C functions. A plan or a query comes as decimal numbers (`replay_given`).
 #![tactic(auto)]
 
 use refusal::Verdict;
 use replay_given::given;
 
 // Evaluate from row 0. Returns how many rows were written.
-#[unsafe(no_mangle)]
-pub extern "C" fn timed_rows<'a>(
+pub fn timed_rows<'a>(
     text: &[u8],
     aevt: &'a [u64],
     avet: &'a [u64],
@@ -20,13 +19,7 @@ pub extern "C" fn timed_rows<'a>(
 }
 
 // The check alone, that evaluation begins with. Returns the refusal's number, or 0.
-#[unsafe(no_mangle)]
-pub extern "C" fn timed_check<'a>(
-    text: &[u8],
-    aevt: &'a [u64],
-    avet: &'a [u64],
-    eavt: &'a [u64],
-) -> u64 {
+pub fn timed_check<'a>(text: &[u8], aevt: &'a [u64], avet: &'a [u64], eavt: &'a [u64]) -> u64 {
     let reading = given::read_plan(text, 0);
     let plan = reading.plan;
     let verdict = eval::check(plan, aevt, avet, eavt);
@@ -37,8 +30,7 @@ pub extern "C" fn timed_check<'a>(
 }
 
 // Search once. Returns the cost, or 0 where it is refused.
-#[unsafe(no_mangle)]
-pub extern "C" fn timed_search(text: &[u8]) -> u64 {
+pub fn timed_search(text: &[u8]) -> u64 {
     let reading = given::read_query(text, 0);
     let query = reading.query;
     let found = search::search(query);
@@ -50,13 +42,7 @@ pub extern "C" fn timed_search(text: &[u8]) -> u64 {
 }
 
 // Build three tables. Returns how many rows they have.
-#[unsafe(no_mangle)]
-pub extern "C" fn timed_build(
-    heap: &[u64],
-    aevt: &mut [u64],
-    avet: &mut [u64],
-    eavt: &mut [u64],
-) -> usize {
+pub fn timed_build(heap: &[u64], aevt: &mut [u64], avet: &mut [u64], eavt: &mut [u64]) -> usize {
     let built = tables_build::build(heap, aevt, avet, eavt);
     built.count
 }

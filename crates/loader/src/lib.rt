@@ -1,5 +1,5 @@
-// The public calls as C functions, for the bootloader; loader/loader.h is their header. Plans and queries are words (crates `loader_words` and
-// `loader_plan_words`), and so are swap states (crate `loader_swap_words`).
+// The public calls over words, for the bootloader; the crate `loader_c` has them as C functions, and loader/loader.h is their header. Plans
+// and queries are words (crates `loader_words` and `loader_plan_words`), and so are swap states (crate `loader_swap_words`).
 //
 // Each call answers the refusal's number, 0 where there is none, and writes the whole answer into the four words that are lent for it:
 // the number, the place, and two more that each call names (0 where it has none, or where it is refused). A refused call writes
@@ -44,8 +44,7 @@ pub const ANSWER_WORDS: usize = 4;
 pub const SWAP_WORDS: usize = 2;
 
 // Plan a query, its statements in the given order. Refusals 10 to 16.
-#[unsafe(no_mangle)]
-pub extern "C" fn loader_plan(
+pub fn loader_plan(
     query: &[u64; QUERY_WORDS],
     plan: &mut [u64; PLAN_WORDS],
     answer: &mut [u64; ANSWER_WORDS],
@@ -66,8 +65,7 @@ pub extern "C" fn loader_plan(
 }
 
 // The cheapest plan of a query, and the order of its statements. Answers the cost. Refusals 10 to 15, 17, 18.
-#[unsafe(no_mangle)]
-pub extern "C" fn loader_search(
+pub fn loader_search(
     query: &[u64; QUERY_WORDS],
     order: &mut [usize; MAX_SEARCHED],
     plan: &mut [u64; PLAN_WORDS],
@@ -92,8 +90,7 @@ pub extern "C" fn loader_search(
 }
 
 // The type of every variable of a query, by a table of (attribute, type). Refusals 10 to 16, 50 to 52.
-#[unsafe(no_mangle)]
-pub extern "C" fn loader_types(
+pub fn loader_types(
     query: &[u64; QUERY_WORDS],
     table: &[u64],
     types: &mut [u64; MAX_SLOTS],
@@ -117,8 +114,7 @@ pub extern "C" fn loader_types(
 
 // Step a plan to the next one. Answers 1 where it is new, and 0 where the initial plan stands again. Only the indexes of the scans that
 // count are written. Refusals 20, 21.
-#[unsafe(no_mangle)]
-pub extern "C" fn loader_next(plan: &mut [u64; PLAN_WORDS], answer: &mut [u64; ANSWER_WORDS]) -> u64
+pub fn loader_next(plan: &mut [u64; PLAN_WORDS], answer: &mut [u64; ANSWER_WORDS]) -> u64
     ensures value { result ≡ number_of (stepped_of plan.old).verdict }
     ensures answer_after { answer.new ≡ answer_of (stepped_of plan.old).verdict (bit (stepped_of plan.old).is_new) 0 }
     ensures plan_after { plan.new ≡ stepped_after (stepped_of plan.old) plan.old }
@@ -136,8 +132,7 @@ pub extern "C" fn loader_next(plan: &mut [u64; PLAN_WORDS], answer: &mut [u64; A
 }
 
 // The plan check. Refusals 20, 13, 21 to 26, 29.
-#[unsafe(no_mangle)]
-pub extern "C" fn loader_check(plan: &[u64; PLAN_WORDS], answer: &mut [u64; ANSWER_WORDS]) -> u64
+pub fn loader_check(plan: &[u64; PLAN_WORDS], answer: &mut [u64; ANSWER_WORDS]) -> u64
     ensures value { result ≡ number_of (check_of (plan_of_words plan.now)) }
     ensures answer_after { answer.new ≡ answer_of (check_of (plan_of_words plan.now)) 0 0 }
 {
@@ -147,8 +142,7 @@ pub extern "C" fn loader_check(plan: &[u64; PLAN_WORDS], answer: &mut [u64; ANSW
 }
 
 // The cost of a plan. Answers it. Refusals 20, 21, 27.
-#[unsafe(no_mangle)]
-pub extern "C" fn loader_cost(plan: &[u64; PLAN_WORDS], answer: &mut [u64; ANSWER_WORDS]) -> u64
+pub fn loader_cost(plan: &[u64; PLAN_WORDS], answer: &mut [u64; ANSWER_WORDS]) -> u64
     ensures value { result ≡ number_of (cost_of (plan_of_words plan.now)).verdict }
     ensures answer_after { answer.new ≡ answer_of (cost_of (plan_of_words plan.now)).verdict (cost_of (plan_of_words plan.now)).cost 0 }
 {
@@ -159,8 +153,7 @@ pub extern "C" fn loader_cost(plan: &[u64; PLAN_WORDS], answer: &mut [u64; ANSWE
 }
 
 // The check of three tables. Refusals 1 to 3.
-#[unsafe(no_mangle)]
-pub extern "C" fn loader_tables(
+pub fn loader_tables(
     aevt: &[u64],
     avet: &[u64],
     eavt: &[u64],
@@ -175,8 +168,7 @@ pub extern "C" fn loader_tables(
 }
 
 // The three tables of a heap of triples: sorted, repeats dropped. Answers how many rows they have. Refusals 70, 71.
-#[unsafe(no_mangle)]
-pub extern "C" fn loader_build(
+pub fn loader_build(
     heap: &[u64],
     aevt: &mut [u64],
     avet: &mut [u64],
@@ -197,8 +189,7 @@ pub extern "C" fn loader_build(
 
 // Evaluate a plan over three tables: its rows from number `from` on, as many whole ones as fit. Answers how many, and 1 where
 // another follows. Refusals: the plan check's, 1 to 3.
-#[unsafe(no_mangle)]
-pub extern "C" fn loader_evaluate<'a>(
+pub fn loader_evaluate<'a>(
     plan: &[u64; PLAN_WORDS],
     aevt: &'a [u64],
     avet: &'a [u64],
@@ -219,8 +210,7 @@ pub extern "C" fn loader_evaluate<'a>(
 }
 
 // The text of a plan, with a name for each slot. Answers its length. Refusals: the plan check's, 30, 31.
-#[unsafe(no_mangle)]
-pub extern "C" fn loader_text(
+pub fn loader_text(
     plan: &[u64; PLAN_WORDS],
     names: &[u8],
     ends: &[usize],
@@ -239,8 +229,7 @@ pub extern "C" fn loader_text(
 }
 
 // How long the name of a select is; it ends where that of the select's slot does. Refusals: the plan check's, 30, 26.
-#[unsafe(no_mangle)]
-pub extern "C" fn loader_select_name<'a>(
+pub fn loader_select_name<'a>(
     plan: &[u64; PLAN_WORDS],
     names: &'a [u8],
     ends: &[usize],
@@ -258,8 +247,7 @@ pub extern "C" fn loader_select_name<'a>(
 }
 
 // A plan's image, by which it is kept. Answers its length. Refusals: the plan check's, 64.
-#[unsafe(no_mangle)]
-pub extern "C" fn loader_store(
+pub fn loader_store(
     plan: &[u64; PLAN_WORDS],
     out: &mut [u8],
     answer: &mut [u64; ANSWER_WORDS],
@@ -276,8 +264,7 @@ pub extern "C" fn loader_store(
 }
 
 // The plan that an image says. Refusals 60 to 63, 20, and the plan check's.
-#[unsafe(no_mangle)]
-pub extern "C" fn loader_restore(
+pub fn loader_restore(
     image: &[u8],
     plan: &mut [u64; PLAN_WORDS],
     answer: &mut [u64; ANSWER_WORDS],
@@ -298,8 +285,7 @@ pub extern "C" fn loader_restore(
 }
 
 // A swap state whose steps list every order of n elements. Refusal 40.
-#[unsafe(no_mangle)]
-pub extern "C" fn loader_permutations(
+pub fn loader_permutations(
     n: usize,
     state: &mut [u64; STATE_WORDS],
     answer: &mut [u64; ANSWER_WORDS],
@@ -321,8 +307,7 @@ pub extern "C" fn loader_permutations(
 
 // Step a swap state: the two positions to swap. Answers 1 where there is a swap, and 0 where none is left; the positions are then 0.
 // Refusal 40.
-#[unsafe(no_mangle)]
-pub extern "C" fn loader_next_swap(
+pub fn loader_next_swap(
     state: &mut [u64; STATE_WORDS],
     swap: &mut [u64; SWAP_WORDS],
     answer: &mut [u64; ANSWER_WORDS],

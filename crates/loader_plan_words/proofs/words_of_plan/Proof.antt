@@ -1,6 +1,6 @@
 -- `words_of_plan` meets its contract: part after part, the words are the plan's.
 use Prim.Native.Nat.{ℕ}
-use lib.ListN.{length-map, replicate, length-replicate}
+use lib.ListN.{replicate, length-replicate}
 use Rattle.loader_words.specs.Words.{plan_words}
 use Rattle.plan.specs.Plan.{Filled}
 use Rattle.loader_plan_words.proofs.Laid.{put_three}
@@ -11,9 +11,9 @@ use Rattle.loader_plan_words.proofs.words_of_plan.Tie as tie
 
 filled : (c : tie.Start) → Filled c.args.plan
 filled c = record {
-  many_scans = simp length-map at c.well-formed.0.1.1.0.1.0.1;
-  many_slots = simp length-map at c.well-formed.0.1.1.1.1.0.1.0.1;
-  many_selects = simp length-map at c.well-formed.0.1.1.1.1.1.1.0.1.0.1;
+  many_scans = c.well_formed.0.1.1.0.1.0.1;
+  many_slots = c.well_formed.0.1.1.1.1.0.1.0.1;
+  many_selects = c.well_formed.0.1.1.1.1.1.1.0.1.0.1;
 }
 
 written : tie.Need-returns
@@ -21,10 +21,10 @@ written c =
     let start = c.before.before.before.before.before.before.before.before.before.before.before.before in
     plan-written start.args.plan (filled start) (replicate plan_words 0) _ _ _ _ (length-replicate {A = ℕ} plan_words 0)
     (put_three (replicate plan_words 0) _ _ _ (search rules))
-    c.before.before.before.before.before.before.before.write-scans.ensures c.before.before.before.before.write-slots.ensures c.before.write-select.ensures
+    c.write_scans.ensures c.write_slots.ensures c.write_select.ensures
 
-pub words-of-plan-spec : {M : Type 1} → statement M
-words-of-plan-spec =
+pub words_of_plan_spec : {M : Type 1} → statement M
+words_of_plan_spec =
     tie.close
     (tie.spec
     (λ c. search rules)

@@ -11,39 +11,39 @@ use Rattle.loader_plan_words.proofs.Indexes.{indexes-more, indexes-done}
 use Rattle.loader_plan_words.proofs.write_indexes.Statement.{statement}
 use Rattle.loader_plan_words.proofs.write_indexes.Tie as tie
 
-abbrev Inv : tie.invariant-loop
+abbrev Inv : tie.invariant-loop-i
 Inv k words₀ scans i₀ words i =
     (i ≤ max_scans) × (with_indexes (take k scans) 0 words₀ ≡ with_indexes (drop i (take k scans)) i words)
 
-abbrev μ : tie.decreases-loop
+abbrev μ : tie.decreases-loop-i
 μ k words₀ scans i₀ words i = max_scans - i
 
-start : tie.Need-loop-init Inv μ
+start : tie.Need-loop-i-init Inv μ
 start c = (omega arith, refl)
 
-again : tie.Need-loop-preserved Inv μ
+again : tie.Need-loop-i-preserved Inv μ
 again c =
     let b = c.before.before.before.before in
-    let a = b.before.args in
-    let h : length a.t1 ≡ max_scans = search rules in
-    (omega arith, b.loop.invariant.1 ∙ rw c.index-code.ensures (indexes-more a.t1 a.scan-count b.loop.i b.loop.words (ltb-true _ _ c.before.before.if1.true) (omega arith)))
+    let a = b.args in
+    let h : length a.scans ≡ max_scans = search rules in
+    (omega arith, b.loop-i.invariant.1 ∙ rw c.index_code.ensures (indexes-more a.scans a.scan_count b.loop-i.i b.loop-i.words (ltb-true _ _ c.if-i-scan_count.true-raw) (omega arith)))
 
-past : tie.Need-returns Inv μ
+past : tie.Need-returns-else-i-scan_count Inv μ
 past c =
     let b = c.before.before in
-    let a = b.before.args in
-    let h : a.scan-count ≤ b.loop.i = ltb-false _ _ c.if1.false in
-    sym (b.loop.invariant.1 ∙ indexes-done a.t1 a.scan-count b.loop.i b.loop.words (simp length-take (omega arith)))
+    let a = b.args in
+    let h : a.scan_count ≤ b.loop-i.i = ltb-false _ _ c.if-i-scan_count.false-raw in
+    sym (b.loop-i.invariant.1 ∙ indexes-done a.scans a.scan_count b.loop-i.i b.loop-i.words (simp length-take (omega arith)))
 
-done : tie.Need-returns-2 Inv μ
+done : tie.Need-returns-after-loop-i Inv μ
 done c =
     let b = c.before in
-    let a = b.before.args in
-    let h : length a.t1 ≡ max_scans = search rules in
-    sym (b.loop.invariant.1 ∙ indexes-done a.t1 a.scan-count b.loop.i b.loop.words (simp length-take (omega arith)))
+    let a = b.args in
+    let h : length a.scans ≡ max_scans = search rules in
+    sym (b.loop-i.invariant.1 ∙ indexes-done a.scans a.scan_count b.loop-i.i b.loop-i.words (simp length-take (omega arith)))
 
-pub write-indexes-spec : {M : Type 1} → statement M
-write-indexes-spec =
+pub write_indexes_spec : {M : Type 1} → statement M
+write_indexes_spec =
     tie.close
     (tie.spec
     Inv

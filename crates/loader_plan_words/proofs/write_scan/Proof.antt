@@ -6,8 +6,8 @@ use borrow.Author.Rules.{rules}
 use Rattle.loader_plan_words.proofs.write_scan.Statement.{statement}
 use Rattle.loader_plan_words.proofs.write_scan.Tie as tie
 
-pub write-scan-spec : {M : Type 1} → statement M
-write-scan-spec =
+pub write_scan_spec : {M : Type 1} → statement M
+write_scan_spec =
     tie.close
     (tie.spec
     (λ c κs. search rules)
@@ -29,4 +29,4 @@ write-scan-spec =
     (λ c. search rules)
     (λ c. simp length-set (omega arith))
     (λ c. search rules)
-    (λ c. rw (c.before.before.before.index-code.ensures, c.before.before.flow-code.ensures) (put_five _ _ _ _ _ _ _ c.before.before.before.before.before.requires)))
+    (λ c. rw (c.index_code.ensures, c.flow_code.ensures) (put_five _ _ _ _ _ _ _ c.requires)))

@@ -14,28 +14,28 @@ use borrow.Author.Rules.{rules}
 use Rattle.loader_plan_words.proofs.write_scans.Statement.{statement}
 use Rattle.loader_plan_words.proofs.write_scans.Tie as tie
 
-abbrev Inv : tie.invariant-loop
+abbrev Inv : tie.invariant-loop-i
 Inv words₀ scans i₀ words i = (i ≤ max_scans) × (length words ≡ plan_words) × (words ≡ put_at scans_at (laid words_of_scan (take i scans)) words₀)
 
-abbrev μ : tie.decreases-loop
+abbrev μ : tie.decreases-loop-i
 μ words₀ scans i₀ words i = max_scans - i
 
-none : tie.Need-loop-init Inv μ
-none c = (omega arith, c.before.requires, rw (← (laid_none words_of_scan)) (put-none _ scans_at))
+none : tie.Need-loop-i-init Inv μ
+none c = (omega arith, c.requires, rw (← (laid_none words_of_scan)) (put-none _ scans_at))
 
-again : tie.Need-loop-preserved Inv μ
+again : tie.Need-loop-i-preserved Inv μ
 again c =
-    let start = c.before.before.before.before.before.before.before.before in
-    let l = c.before.before.before.before.before.before.loop in
-    let wrote = c.before.before.write-scan in
-    let h : length start.args.t1 ≡ max_scans = search rules in (
+    let start = c in
+    let l = c.loop-i in
+    let wrote = c.write_scan in
+    let h : length start.args.scans ≡ max_scans = search rules in (
       omega arith,
-      wrote.auto.1.1.0 ∙ l.invariant.1,
-      laid_more words_of_scan scan_words (λ _. refl) start.args.t1 start.args.words.now l.words _ scans_at l.i zero_scan (omega arith) (omega (arith, start.requires)) l.invariant.2 wrote.ensures,
+      wrote.auto.words ∙ l.invariant.1,
+      laid_more words_of_scan scan_words (λ _. refl) start.args.scans start.args.words.now l.words _ scans_at l.i zero_scan (omega arith) (omega (arith, start.requires)) l.invariant.2 wrote.ensures,
     )
 
-pub write-scans-spec : {M : Type 1} → statement M
-write-scans-spec =
+pub write_scans_spec : {M : Type 1} → statement M
+write_scans_spec =
     tie.close
     (tie.spec
     Inv
@@ -50,4 +50,4 @@ write-scans-spec =
     (λ c. search rules)
     again
     (λ c. search rules)
-    (λ c. let start = c.before.before.before in let h : length start.args.t1 ≡ max_scans = search rules in laid-all words_of_scan scan_words (λ _. refl) start.args.t1 start.args.words.now _ scans_at c.before.loop.i (omega arith) c.before.loop.invariant.2))
+    (λ c. let start = c in let h : length start.args.scans ≡ max_scans = search rules in laid-all words_of_scan scan_words (λ _. refl) start.args.scans start.args.words.now _ scans_at c.loop-i.i (omega arith) c.loop-i.invariant.2))

@@ -6,8 +6,8 @@ use borrow.Author.Rules.{rules}
 use Rattle.loader_plan_words.proofs.write_slot.Statement.{statement}
 use Rattle.loader_plan_words.proofs.write_slot.Tie as tie
 
-pub write-slot-spec : {M : Type 1} → statement M
-write-slot-spec =
+pub write_slot_spec : {M : Type 1} → statement M
+write_slot_spec =
     tie.close
     (tie.spec
     (λ c κs. search rules)
@@ -18,4 +18,4 @@ write-slot-spec =
     (λ c. search rules)
     (λ c. simp length-set (omega arith))
     (λ c. search rules)
-    (λ c. rw (c.before.constant-word.ensures, c.value-word.ensures) (put_two _ _ _ _ c.before.before.before.requires)))
+    (λ c. rw (c.constant_word.ensures, c.value_word.ensures) (put_two _ _ _ _ c.requires)))

@@ -14,28 +14,28 @@ use borrow.Author.Rules.{rules}
 use Rattle.loader_plan_words.proofs.write_slots.Statement.{statement}
 use Rattle.loader_plan_words.proofs.write_slots.Tie as tie
 
-abbrev Inv : tie.invariant-loop
+abbrev Inv : tie.invariant-loop-i
 Inv words₀ slots i₀ words i = (i ≤ max_slots) × (length words ≡ plan_words) × (words ≡ put_at slots_at (laid words_of_slot (take i slots)) words₀)
 
-abbrev μ : tie.decreases-loop
+abbrev μ : tie.decreases-loop-i
 μ words₀ slots i₀ words i = max_slots - i
 
-none : tie.Need-loop-init Inv μ
-none c = (omega arith, c.before.requires, rw (← (laid_none words_of_slot)) (put-none _ slots_at))
+none : tie.Need-loop-i-init Inv μ
+none c = (omega arith, c.requires, rw (← (laid_none words_of_slot)) (put-none _ slots_at))
 
-again : tie.Need-loop-preserved Inv μ
+again : tie.Need-loop-i-preserved Inv μ
 again c =
-    let start = c.before.before.before.before.before.before.before.before in
-    let l = c.before.before.before.before.before.before.loop in
-    let wrote = c.before.before.write-slot in
-    let h : length start.args.t1 ≡ max_slots = search rules in (
+    let start = c in
+    let l = c.loop-i in
+    let wrote = c.write_slot in
+    let h : length start.args.slots ≡ max_slots = search rules in (
       omega arith,
-      wrote.auto.1.1.0 ∙ l.invariant.1,
-      laid_more words_of_slot slot_words (λ _. refl) start.args.t1 start.args.words.now l.words _ slots_at l.i variable_slot (omega arith) (omega (arith, start.requires)) l.invariant.2 wrote.ensures,
+      wrote.auto.words ∙ l.invariant.1,
+      laid_more words_of_slot slot_words (λ _. refl) start.args.slots start.args.words.now l.words _ slots_at l.i variable_slot (omega arith) (omega (arith, start.requires)) l.invariant.2 wrote.ensures,
     )
 
-pub write-slots-spec : {M : Type 1} → statement M
-write-slots-spec =
+pub write_slots_spec : {M : Type 1} → statement M
+write_slots_spec =
     tie.close
     (tie.spec
     Inv
@@ -50,4 +50,4 @@ write-slots-spec =
     (λ c. search rules)
     again
     (λ c. search rules)
-    (λ c. let start = c.before.before.before in let h : length start.args.t1 ≡ max_slots = search rules in laid-all words_of_slot slot_words (λ _. refl) start.args.t1 start.args.words.now _ slots_at c.before.loop.i (omega arith) c.before.loop.invariant.2))
+    (λ c. let start = c in let h : length start.args.slots ≡ max_slots = search rules in laid-all words_of_slot slot_words (λ _. refl) start.args.slots start.args.words.now _ slots_at c.loop-i.i (omega arith) c.loop-i.invariant.2))

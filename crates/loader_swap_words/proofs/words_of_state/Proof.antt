@@ -11,31 +11,31 @@ use Rattle.loader_swap_words.proofs.Copied.{copied_more, copied_all, counter-wor
 use Rattle.loader_swap_words.proofs.words_of_state.Statement.{statement}
 use Rattle.loader_swap_words.proofs.words_of_state.Tie as tie
 
-abbrev Inv : tie.invariant-loop
+abbrev Inv : tie.invariant-loop-i
 Inv ks words₀ i₀ words i =
     (i ≤ max_elements) × (length words ≡ state_words) × (take (counters_at + i) words ≡ take (counters_at + i) (get_or words₀ 0 0 ∷ get_or words₀ 1 0 ∷ ks))
 
-abbrev μ : tie.decreases-loop
+abbrev μ : tie.decreases-loop-i
 μ ks words₀ i₀ words i = max_elements - i
 
-again : tie.Need-loop-preserved Inv μ
+again : tie.Need-loop-i-preserved Inv μ
 again c =
-    let l = c.before.loop in
-    let s = c.before.before.before.args.state in
+    let l = c.loop-i in
+    let s = c.args.state in
     let long : length s.ks ≡ max_elements = search rules in
     let e : counters_at + (l.i + 1) ≡ counters_at + l.i + 1 = omega arith in
     (omega arith, length-set l.words _ _ ∙ l.invariant.1, rw e (copied_more l.words (words_of_state s) (counters_at + l.i) _ (omega arith) (omega (arith, long)) (sym (counter-word s l.i)) l.invariant.2))
 
 all : tie.Need-returns Inv μ
 all c =
-    let l = c.before.loop in
-    let s = c.before.before.before.args.state in
+    let l = c.loop-i in
+    let s = c.args.state in
     let long : length s.ks ≡ max_elements = search rules in
     let last : counters_at + l.i ≡ state_words = omega arith in
     copied_all l.words (words_of_state s) state_words l.invariant.1 (omega (arith, long)) (rw last at l.invariant.2)
 
-pub words-of-state-spec : {M : Type 1} → statement M
-words-of-state-spec =
+pub words_of_state_spec : {M : Type 1} → statement M
+words_of_state_spec =
     tie.close
     (tie.spec
     Inv

@@ -1,0 +1,239 @@
+// The calls of the crate `loader` as C functions, for the bootloader; loader/loader.h is their header. Each export calls the function of
+// its own name there, and promises the same.
+#![tactic(auto)]
+
+ghost use Rattle.std.specs.Prelude.{◌≡◌, length};
+ghost use Rattle.visits.specs.Visits.{tables_of};
+ghost use Rattle.cost.specs.Cost.{cost_of};
+ghost use Rattle.plan_check.specs.Check.{check_of};
+ghost use Rattle.tables.specs.Check.{tables_fault};
+ghost use Rattle.datom.specs.Fact.{aevt_row, avet_row, eavt_row};
+ghost use Rattle.tables_build.specs.Build.{built_rows, build_of, built_over};
+ghost use Rattle.eval.specs.Evaluation.{evaluate_of, buffer_after};
+ghost use Rattle.refusal.specs.Verdict.{number_of};
+ghost use Rattle.text_names.specs.Names.{select_name_fault};
+ghost use Rattle.plan_text.specs.Answer.{formatted_of, text_after};
+ghost use Rattle.image.specs.Image.{stored_of, image_after};
+ghost use Rattle.image.specs.Read.{plan_read_of};
+ghost use Rattle.permutation.specs.Swaps.{fresh_of};
+ghost use Rattle.loader_words.specs.Words.{plan_of_words};
+ghost use Rattle.loader.specs.Answers.{answer_of, bit, plan_after, stepped_after, order_after, types_after, state_after, swap_after, planned_of, found_of, typed_of, stepped_of, swapped_of, built_words, evaluated_words, formatted_words, name_words, stored_words};
+
+use capacity::{MAX_SEARCHED, MAX_SLOTS};
+use loader::{ANSWER_WORDS, SWAP_WORDS};
+use loader_swap_words::STATE_WORDS;
+use loader_words::{PLAN_WORDS, QUERY_WORDS};
+
+// Plan a query, its statements in the given order. Refusals 10 to 16.
+#[unsafe(no_mangle)]
+pub extern "C" fn loader_plan(
+    query: &[u64; QUERY_WORDS],
+    plan: &mut [u64; PLAN_WORDS],
+    answer: &mut [u64; ANSWER_WORDS],
+) -> u64
+    ensures value { result ≡ number_of (planned_of query.now).verdict }
+    ensures answer_after { answer.new ≡ answer_of (planned_of query.now).verdict 0 0 }
+    ensures plan_after { plan.new ≡ plan_after (planned_of query.now).verdict (planned_of query.now).plan plan.old }
+{
+    loader::loader_plan(query, plan, answer)
+}
+
+// The cheapest plan of a query, and the order of its statements. Answers the cost. Refusals 10 to 15, 17, 18.
+#[unsafe(no_mangle)]
+pub extern "C" fn loader_search(
+    query: &[u64; QUERY_WORDS],
+    order: &mut [usize; MAX_SEARCHED],
+    plan: &mut [u64; PLAN_WORDS],
+    answer: &mut [u64; ANSWER_WORDS],
+) -> u64
+    ensures value { result ≡ number_of (found_of query.now).verdict }
+    ensures answer_after { answer.new ≡ answer_of (found_of query.now).verdict (found_of query.now).cost 0 }
+    ensures order_after { order.new ≡ order_after (found_of query.now).verdict (found_of query.now).order order.old }
+    ensures plan_after { plan.new ≡ plan_after (found_of query.now).verdict (found_of query.now).plan plan.old }
+{
+    loader::loader_search(query, order, plan, answer)
+}
+
+// The type of every variable of a query, by a table of (attribute, type). Refusals 10 to 16, 50 to 52.
+#[unsafe(no_mangle)]
+pub extern "C" fn loader_types(
+    query: &[u64; QUERY_WORDS],
+    table: &[u64],
+    types: &mut [u64; MAX_SLOTS],
+    answer: &mut [u64; ANSWER_WORDS],
+) -> u64
+    ensures value { result ≡ number_of (typed_of query.now table.now).verdict }
+    ensures answer_after { answer.new ≡ answer_of (typed_of query.now table.now).verdict 0 0 }
+    ensures types_after { types.new ≡ types_after (typed_of query.now table.now) types.old }
+{
+    loader::loader_types(query, table, types, answer)
+}
+
+// Step a plan to the next one. Answers 1 where it is new, and 0 where the initial plan stands again. Only the indexes of the scans that
+// count are written. Refusals 20, 21.
+#[unsafe(no_mangle)]
+pub extern "C" fn loader_next(plan: &mut [u64; PLAN_WORDS], answer: &mut [u64; ANSWER_WORDS]) -> u64
+    ensures value { result ≡ number_of (stepped_of plan.old).verdict }
+    ensures answer_after { answer.new ≡ answer_of (stepped_of plan.old).verdict (bit (stepped_of plan.old).is_new) 0 }
+    ensures plan_after { plan.new ≡ stepped_after (stepped_of plan.old) plan.old }
+{
+    loader::loader_next(plan, answer)
+}
+
+// The plan check. Refusals 20, 13, 21 to 26, 29.
+#[unsafe(no_mangle)]
+pub extern "C" fn loader_check(plan: &[u64; PLAN_WORDS], answer: &mut [u64; ANSWER_WORDS]) -> u64
+    ensures value { result ≡ number_of (check_of (plan_of_words plan.now)) }
+    ensures answer_after { answer.new ≡ answer_of (check_of (plan_of_words plan.now)) 0 0 }
+{
+    loader::loader_check(plan, answer)
+}
+
+// The cost of a plan. Answers it. Refusals 20, 21, 27.
+#[unsafe(no_mangle)]
+pub extern "C" fn loader_cost(plan: &[u64; PLAN_WORDS], answer: &mut [u64; ANSWER_WORDS]) -> u64
+    ensures value { result ≡ number_of (cost_of (plan_of_words plan.now)).verdict }
+    ensures answer_after { answer.new ≡ answer_of (cost_of (plan_of_words plan.now)).verdict (cost_of (plan_of_words plan.now)).cost 0 }
+{
+    loader::loader_cost(plan, answer)
+}
+
+// The check of three tables. Refusals 1 to 3.
+#[unsafe(no_mangle)]
+pub extern "C" fn loader_tables(
+    aevt: &[u64],
+    avet: &[u64],
+    eavt: &[u64],
+    answer: &mut [u64; ANSWER_WORDS],
+) -> u64
+    ensures value { result ≡ number_of (tables_fault aevt.now avet.now eavt.now) }
+    ensures answer_after { answer.new ≡ answer_of (tables_fault aevt.now avet.now eavt.now) 0 0 }
+{
+    loader::loader_tables(aevt, avet, eavt, answer)
+}
+
+// The three tables of a heap of triples: sorted, repeats dropped. Answers how many rows they have. Refusals 70, 71.
+#[unsafe(no_mangle)]
+pub extern "C" fn loader_build(
+    heap: &[u64],
+    aevt: &mut [u64],
+    avet: &mut [u64],
+    eavt: &mut [u64],
+    answer: &mut [u64; ANSWER_WORDS],
+) -> u64
+    ensures value { result ≡ number_of (build_of heap.now (length aevt.old) (length avet.old) (length eavt.old)).verdict }
+    ensures answer_after { answer.new ≡ built_words (build_of heap.now (length aevt.old) (length avet.old) (length eavt.old)) }
+    ensures aevt_after { aevt.new ≡ built_over (build_of heap.now (length aevt.old) (length avet.old) (length eavt.old)).verdict (built_rows aevt_row heap.now) aevt.old }
+    ensures avet_after { avet.new ≡ built_over (build_of heap.now (length aevt.old) (length avet.old) (length eavt.old)).verdict (built_rows avet_row heap.now) avet.old }
+    ensures eavt_after { eavt.new ≡ built_over (build_of heap.now (length aevt.old) (length avet.old) (length eavt.old)).verdict (built_rows eavt_row heap.now) eavt.old }
+{
+    loader::loader_build(heap, aevt, avet, eavt, answer)
+}
+
+// Evaluate a plan over three tables: its rows from number `from` on, as many whole ones as fit. Answers how many, and 1 where
+// another follows. Refusals: the plan check's, 1 to 3.
+#[unsafe(no_mangle)]
+pub extern "C" fn loader_evaluate<'a>(
+    plan: &[u64; PLAN_WORDS],
+    aevt: &'a [u64],
+    avet: &'a [u64],
+    eavt: &'a [u64],
+    from: u64,
+    rows: &mut [u64],
+    answer: &mut [u64; ANSWER_WORDS],
+) -> u64
+    ensures value { result ≡ number_of (evaluate_of (plan_of_words plan.now) (tables_of aevt.now avet.now eavt.now) from (length rows.old)).verdict }
+    ensures answer_after { answer.new ≡ evaluated_words (evaluate_of (plan_of_words plan.now) (tables_of aevt.now avet.now eavt.now) from (length rows.old)) }
+    ensures rows_after { rows.new ≡ buffer_after (plan_of_words plan.now) (tables_of aevt.now avet.now eavt.now) from rows.old }
+{
+    loader::loader_evaluate(plan, aevt, avet, eavt, from, rows, answer)
+}
+
+// The text of a plan, with a name for each slot. Answers its length. Refusals: the plan check's, 30, 31.
+#[unsafe(no_mangle)]
+pub extern "C" fn loader_text(
+    plan: &[u64; PLAN_WORDS],
+    names: &[u8],
+    ends: &[usize],
+    out: &mut [u8],
+    answer: &mut [u64; ANSWER_WORDS],
+) -> u64
+    ensures value { result ≡ number_of (formatted_of (plan_of_words plan.now) names.now ends.now (length out.old)).verdict }
+    ensures answer_after { answer.new ≡ formatted_words (formatted_of (plan_of_words plan.now) names.now ends.now (length out.old)) }
+    ensures out_after { out.new ≡ text_after (plan_of_words plan.now) names.now ends.now out.old }
+{
+    loader::loader_text(plan, names, ends, out, answer)
+}
+
+// How long the name of a select is; it ends where that of the select's slot does. Refusals: the plan check's, 30, 26.
+#[unsafe(no_mangle)]
+pub extern "C" fn loader_select_name<'a>(
+    plan: &[u64; PLAN_WORDS],
+    names: &'a [u8],
+    ends: &[usize],
+    index: usize,
+    answer: &mut [u64; ANSWER_WORDS],
+) -> u64
+    ensures value { result ≡ number_of (select_name_fault (plan_of_words plan.now) names.now ends.now index) }
+    ensures answer_after { answer.new ≡ name_words (plan_of_words plan.now) names.now ends.now index }
+{
+    loader::loader_select_name(plan, names, ends, index, answer)
+}
+
+// A plan's image, by which it is kept. Answers its length. Refusals: the plan check's, 64.
+#[unsafe(no_mangle)]
+pub extern "C" fn loader_store(
+    plan: &[u64; PLAN_WORDS],
+    out: &mut [u8],
+    answer: &mut [u64; ANSWER_WORDS],
+) -> u64
+    ensures value { result ≡ number_of (stored_of (plan_of_words plan.now) (length out.old)).verdict }
+    ensures answer_after { answer.new ≡ stored_words (stored_of (plan_of_words plan.now) (length out.old)) }
+    ensures out_after { out.new ≡ image_after (plan_of_words plan.now) out.old }
+{
+    loader::loader_store(plan, out, answer)
+}
+
+// The plan that an image says. Refusals 60 to 63, 20, and the plan check's.
+#[unsafe(no_mangle)]
+pub extern "C" fn loader_restore(
+    image: &[u8],
+    plan: &mut [u64; PLAN_WORDS],
+    answer: &mut [u64; ANSWER_WORDS],
+) -> u64
+    ensures value { result ≡ number_of (plan_read_of image.now).verdict }
+    ensures answer_after { answer.new ≡ answer_of (plan_read_of image.now).verdict 0 0 }
+    ensures plan_after { plan.new ≡ plan_after (plan_read_of image.now).verdict (plan_read_of image.now).plan plan.old }
+{
+    loader::loader_restore(image, plan, answer)
+}
+
+// A swap state whose steps list every order of n elements. Refusal 40.
+#[unsafe(no_mangle)]
+pub extern "C" fn loader_permutations(
+    n: usize,
+    state: &mut [u64; STATE_WORDS],
+    answer: &mut [u64; ANSWER_WORDS],
+) -> u64
+    ensures value { result ≡ number_of (fresh_of n).verdict }
+    ensures answer_after { answer.new ≡ answer_of (fresh_of n).verdict 0 0 }
+    ensures state_after { state.new ≡ state_after (fresh_of n).verdict (fresh_of n).state state.old }
+{
+    loader::loader_permutations(n, state, answer)
+}
+
+// Step a swap state: the two positions to swap. Answers 1 where there is a swap, and 0 where none is left; the positions are then 0.
+// Refusal 40.
+#[unsafe(no_mangle)]
+pub extern "C" fn loader_next_swap(
+    state: &mut [u64; STATE_WORDS],
+    swap: &mut [u64; SWAP_WORDS],
+    answer: &mut [u64; ANSWER_WORDS],
+) -> u64
+    ensures value { result ≡ number_of (swapped_of state.old).next.verdict }
+    ensures answer_after { answer.new ≡ answer_of (swapped_of state.old).next.verdict (bit (swapped_of state.old).next.is_some) 0 }
+    ensures swap_after { swap.new ≡ swap_after (swapped_of state.old).next.verdict (swapped_of state.old).next.swap swap.old }
+    ensures state_after { state.new ≡ state_after (swapped_of state.old).next.verdict (swapped_of state.old).state state.old }
+{
+    loader::loader_next_swap(state, swap, answer)
+}
