@@ -5,28 +5,30 @@ ghost use Rattle.std.specs.Prelude.{◌≡◌, length};
 ghost use Rattle.ask_answer.specs.Capacity.{text_bytes, word_count, window_words};
 
 use ask_answer::{TEXT_BYTES, WINDOW, WORDS};
-use libc::{STDIN_FILENO, STDOUT_FILENO};
+use std::io;
+use std::io::Stdout;
+use whole_input::read_full;
 
 // What is written stands in the buffer that the text was read into.
-fn main() {
+fn main(rt: HostRuntime) -> io::Result<()> {
     let mut text = text_buffer();
-    let n = io::read_full(STDIN_FILENO, &mut text);
+    let n = read_full(&mut rt.stdin(), &mut text)?;
     let mut words = word_buffer();
     let count = ask_answer::read_question(&text[..n], &mut words);
-    put_answer(&words[..count], &mut text);
+    put_answer(rt.stdout(), &words[..count], &mut text)
 }
 
 // The answer, part after part.
-fn put_answer(words: &[u64], out: &mut [u8])
+fn put_answer(to: Stdout, words: &[u64], out: &mut [u8]) -> io::Result<()>
     requires { length out.old ≡ text_bytes }
 {
     let mut rows = window_buffer();
     let mut part = ask_answer::begin(words, out);
     loop {
         let count = part.length;
-        io::write_all(STDOUT_FILENO, &out[..count]);
+        to.write_all(&out[..count])?;
         if part.last {
-            return;
+            return Ok(());
         }
         part = ask_answer::go_on(words, part, &mut rows, out);
     }

@@ -10,10 +10,12 @@ mod over_tables;
 ghost use Rattle.std.specs.Prelude.{◌≡◌, length};
 ghost use Rattle.replay.specs.Capacity.{text_bytes};
 
-use libc::STDIN_FILENO;
 use replay_given::numbers;
 use replay_given::written::put;
 use replay_plans::{images, plans, queries, searches, swaps, texts, typed};
+use std::io;
+use std::io::Stdout;
+use whole_input::read_full;
 
 // The cases are shorter than this many bytes.
 const TEXT_BYTES: usize = 1048576;
@@ -43,14 +45,13 @@ const IMAGES_READ: u64 = 11;
 
 const BUILDS: u64 = 12;
 
-fn main() {
+fn main(rt: HostRuntime) -> io::Result<()> {
     let mut text = text_buffer();
-    let n = io::read_full(STDIN_FILENO, &mut text);
+    let n = read_full(&mut rt.stdin(), &mut text)?;
     if TEXT_BYTES <= n {
-        put(b"too many cases\n");
-        return;
+        return put(rt.stdout(), b"too many cases\n");
     }
-    put_all(&text[..n]);
+    put_all(rt.stdout(), &text[..n])
 }
 
 fn text_buffer() -> [u8; TEXT_BYTES]
@@ -60,40 +61,41 @@ fn text_buffer() -> [u8; TEXT_BYTES]
 }
 
 // The answers to all cases of a text.
-fn put_all(text: &[u8]) {
+fn put_all(to: Stdout, text: &[u8]) -> io::Result<()> {
     let mut at: usize = 0;
     while numbers::skip(text, at) < text.len() {
-        let next = put_case(text, at);
+        let next = put_case(to, text, at)?;
         if next <= at {
-            return;
+            return Ok(());
         }
         at = next;
     }
+    Ok(())
 }
 
 // The case that begins at a place. Returns where to read on; of an unknown kind that is the place itself.
-fn put_case(text: &[u8], start: usize) -> usize {
+fn put_case(to: Stdout, text: &[u8], start: usize) -> io::Result<usize> {
     let reading = numbers::number_at(text, start);
     let kind = reading.value;
     let next = reading.next;
     match kind {
-        SWAPS => swaps::put_case(text, next),
-        PLANS => plans::put_case(text, next),
-        TEXTS => texts::put_case(text, next),
-        QUERIES => queries::put_case(text, next),
-        SEARCHES => searches::put_case(text, next),
-        TABLES => over_tables::put_case(text, next),
-        PLAN_PARTS => plans::put_parts(text, next),
-        QUERY_CHECKS => queries::put_check(text, next),
-        TYPES => typed::put_case(text, next),
-        IMAGES_WRITTEN => images::put_written(text, next),
-        IMAGES_READ => images::put_read(text, next),
-        BUILDS => builds::put_case(text, next),
-        _ => put_unknown(start),
+        SWAPS => swaps::put_case(to, text, next),
+        PLANS => plans::put_case(to, text, next),
+        TEXTS => texts::put_case(to, text, next),
+        QUERIES => queries::put_case(to, text, next),
+        SEARCHES => searches::put_case(to, text, next),
+        TABLES => over_tables::put_case(to, text, next),
+        PLAN_PARTS => plans::put_parts(to, text, next),
+        QUERY_CHECKS => queries::put_check(to, text, next),
+        TYPES => typed::put_case(to, text, next),
+        IMAGES_WRITTEN => images::put_written(to, text, next),
+        IMAGES_READ => images::put_read(to, text, next),
+        BUILDS => builds::put_case(to, text, next),
+        _ => put_unknown(to, start),
     }
 }
 
-fn put_unknown(start: usize) -> usize {
-    put(b"unknown kind\n");
-    start
+fn put_unknown(to: Stdout, start: usize) -> io::Result<usize> {
+    put(to, b"unknown kind\n")?;
+    Ok(start)
 }

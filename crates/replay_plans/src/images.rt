@@ -5,9 +5,11 @@ use super::texts::{BUFFER_BYTES, blank, read_bytes};
 use plan::Plan;
 use replay_given::written::{put, put_after, put_number, put_plan, put_verdict};
 use replay_given::{given, numbers};
+use std::io;
+use std::io::Stdout;
 
 // The plan that begins at a place, stored in each buffer. Returns where to read on.
-pub fn put_written(text: &[u8], start: usize) -> usize {
+pub fn put_written(to: Stdout, text: &[u8], start: usize) -> io::Result<usize> {
     let reading = given::read_plan(text, start);
     let plan = reading.plan;
     let rooms = numbers::number_at(text, reading.next);
@@ -15,61 +17,62 @@ pub fn put_written(text: &[u8], start: usize) -> usize {
     let mut left = rooms.value;
     while 0 < left {
         let room = numbers::number_at(text, next);
-        put_stored_in(plan, room.value);
+        put_stored_in(to, plan, room.value)?;
         next = room.next;
         left -= 1;
     }
-    next
+    Ok(next)
 }
 
-fn put_stored_in(plan: Plan, room: u64) {
+fn put_stored_in(to: Stdout, plan: Plan, room: u64) -> io::Result<()> {
     let mut buffer = blank();
     if room <= BUFFER_BYTES as u64 {
-        put_stored(plan, &mut buffer[..room as usize]);
+        return put_stored(to, plan, &mut buffer[..room as usize]);
     }
+    Ok(())
 }
 
 // The plan's image written to a buffer, and the buffer after it.
-fn put_stored(plan: Plan, out: &mut [u8]) {
+fn put_stored(to: Stdout, plan: Plan, out: &mut [u8]) -> io::Result<()> {
     let stored = image_write::write_image(plan, out);
     let verdict = stored.verdict;
-    put(b"image ");
-    put_verdict(verdict);
-    put(b", length ");
-    put_number(stored.length as u64);
-    put(b",");
-    put_numbers(out);
+    put(to, b"image ")?;
+    put_verdict(to, verdict)?;
+    put(to, b", length ")?;
+    put_number(to, stored.length as u64)?;
+    put(to, b",")?;
+    put_numbers(to, out)
 }
 
-fn put_numbers(bytes: &[u8]) {
+fn put_numbers(to: Stdout, bytes: &[u8]) -> io::Result<()> {
     let mut i = 0;
     while i < bytes.len() {
-        put_byte(bytes[i]);
+        put_byte(to, bytes[i])?;
         i += 1;
     }
-    put(b"\n");
+    put(to, b"\n")
 }
 
-fn put_byte(byte: u8) {
-    put_after(byte as u64);
+fn put_byte(to: Stdout, byte: u8) -> io::Result<()> {
+    put_after(to, byte as u64)
 }
 
 // The image that begins at a place, read. Returns where to read on.
-pub fn put_read(text: &[u8], start: usize) -> usize {
+pub fn put_read(to: Stdout, text: &[u8], start: usize) -> io::Result<usize> {
     let mut buffer = [0u8; BUFFER_BYTES];
     let given = read_bytes(text, start, &mut buffer);
     let count = given.count;
-    put_restored(&buffer[..count]);
-    given.next
+    put_restored(to, &buffer[..count])?;
+    Ok(given.next)
 }
 
-fn put_restored(bytes: &[u8]) {
+fn put_restored(to: Stdout, bytes: &[u8]) -> io::Result<()> {
     let read = image_read::read_image(bytes);
     let verdict = read.verdict;
     let plan = read.plan;
-    put(b"read ");
-    put_verdict(verdict);
-    put(b": ");
-    put_plan(plan);
-    put(b"\n");
+    put(to, b"read ")?;
+    put_verdict(to, verdict)?;
+    put(to, b": ")?;
+    put_plan(to, plan)?;
+    put(to, b"\n")
 }

@@ -11,6 +11,8 @@ use query::{Query, Statement, Var};
 use refusal::{Refusal, Verdict};
 use replay_given::written::{put, put_after, put_indexes};
 use replay_given::{given, written};
+use std::io;
+use std::io::Stdout;
 
 // How many plans are listed at the most, and up to how many scans the cost is asked.
 const LISTED: usize = 500;
@@ -20,60 +22,59 @@ const WEIGHED: usize = 9;
 const ONE_TOO_MANY: usize = MAX_STATEMENTS + 1;
 
 // The query that begins at a place. Returns where to read on.
-pub fn put_case(text: &[u8], start: usize) -> usize {
+pub fn put_case(to: Stdout, text: &[u8], start: usize) -> io::Result<usize> {
     let reading = given::read_query(text, start);
     let query = reading.query;
-    put_answer(query);
-    reading.next
+    put_answer(to, query)?;
+    Ok(reading.next)
 }
 
 // The query that begins at a place, checked. Returns where to read on.
-pub fn put_check(text: &[u8], start: usize) -> usize {
+pub fn put_check(to: Stdout, text: &[u8], start: usize) -> io::Result<usize> {
     let reading = given::read_query(text, start);
     let query = reading.query;
-    put(b"query ");
-    written::put_verdict(query_check::check_query(query));
-    put(b"\n");
-    reading.next
+    put(to, b"query ")?;
+    written::put_verdict(to, query_check::check_query(query))?;
+    put(to, b"\n")?;
+    Ok(reading.next)
 }
 
-fn put_listed(plan: Plan) {
+fn put_listed(to: Stdout, plan: Plan) -> io::Result<()> {
     let scans = plan.scans;
-    put(b" ");
-    put_indexes(scans, plan.scan_count);
+    put(to, b" ")?;
+    put_indexes(to, scans, plan.scan_count)?;
     if plan.scan_count <= WEIGHED {
         let costed = cost::cost(plan);
-        put_after(costed.cost);
+        put_after(to, costed.cost)
     } else {
-        put(b" left out");
+        put(to, b" left out")
     }
 }
 
 // The plans listed from a plan on, and what stands again after the last.
-fn put_listing(start: Plan) {
+fn put_listing(to: Stdout, start: Plan) -> io::Result<()> {
     let mut plan = start;
     let mut listed: usize = 0;
     while listed < LISTED {
-        put_listed(plan);
+        put_listed(to, plan)?;
         let next = listing::next(plan);
         plan = next.plan;
         listed += 1;
         if !next.is_new {
-            put_again(plan);
-            return;
+            return put_again(to, plan);
         }
     }
-    put_cut();
+    put_cut(to)
 }
 
-fn put_cut() {
-    put(b" ..");
+fn put_cut(to: Stdout) -> io::Result<()> {
+    put(to, b" ..")
 }
 
-fn put_again(plan: Plan) {
+fn put_again(to: Stdout, plan: Plan) -> io::Result<()> {
     let scans = plan.scans;
-    put(b" again ");
-    put_indexes(scans, plan.scan_count);
+    put(to, b" again ")?;
+    put_indexes(to, scans, plan.scan_count)
 }
 
 // The plan. One statement more than fit in a query is lent too, whatever it is.
@@ -117,22 +118,22 @@ fn lend(
 }
 
 // A refusal comes with the plan of nothing, of which there is nothing to write.
-fn put_refused(r: Refusal, plan: Plan) {
-    written::put_refusal(r);
-    written::put_plan(plan);
+fn put_refused(to: Stdout, r: Refusal, plan: Plan) -> io::Result<()> {
+    written::put_refusal(to, r)?;
+    written::put_plan(to, plan)
 }
 
-fn put_answer(query: Query) {
+fn put_answer(to: Stdout, query: Query) -> io::Result<()> {
     let planned = planned_of(query);
     let verdict = planned.verdict;
     let plan = planned.plan;
     match verdict {
-        Verdict::Refused(r) => put_refused(r, plan),
+        Verdict::Refused(r) => put_refused(to, r, plan)?,
         Verdict::Fine => {
-            written::put_plan(plan);
-            put(b"; plans");
-            put_listing(plan);
+            written::put_plan(to, plan)?;
+            put(to, b"; plans")?;
+            put_listing(to, plan)?;
         }
     }
-    put(b"\n");
+    put(to, b"\n")
 }

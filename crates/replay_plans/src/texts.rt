@@ -8,6 +8,8 @@ ghost use Rattle.replay_plans.specs.Capacity.{buffer_bytes};
 use plan::{Plan, Slot};
 use replay_given::written::{put, put_number, put_verdict};
 use replay_given::{given, numbers};
+use std::io;
+use std::io::Stdout;
 
 // The longest buffer for a text, an image or an image given.
 pub const BUFFER_BYTES: usize = 4096;
@@ -20,7 +22,7 @@ pub struct Counted {
 }
 
 // The case that begins at a place. Returns where to read on.
-pub fn put_case(text: &[u8], start: usize) -> usize {
+pub fn put_case(to: Stdout, text: &[u8], start: usize) -> io::Result<usize> {
     let reading = given::read_plan(text, start);
     let plan = reading.plan;
     let mut names = [0u8; 1024];
@@ -30,6 +32,7 @@ pub fn put_case(text: &[u8], start: usize) -> usize {
     let byte_count = bytes.count;
     let end_count = slots.count;
     show_all(
+        to,
         text,
         slots.next,
         plan,
@@ -39,52 +42,65 @@ pub fn put_case(text: &[u8], start: usize) -> usize {
 }
 
 // The answers to one plan with its names. Returns where to read on.
-fn show_all(text: &[u8], start: usize, plan: Plan, names: &[u8], ends: &[usize]) -> usize {
-    let next = show_plan(text, start, plan, names, ends);
-    show_slots(text, next, plan, names, ends)
+fn show_all(
+    to: Stdout,
+    text: &[u8],
+    start: usize,
+    plan: Plan,
+    names: &[u8],
+    ends: &[usize],
+) -> io::Result<usize> {
+    let next = show_plan(to, text, start, plan, names, ends)?;
+    show_slots(to, text, next, plan, names, ends)
 }
 
 fn is_shown(b: u8) -> bool {
     b == 10 || 32 <= b && b <= 126
 }
 
-fn put_byte(b: u8) {
+fn put_byte(to: Stdout, b: u8) -> io::Result<()> {
     if is_shown(b) {
         let one = [b];
-        put(&one);
+        put(to, &one)
     } else {
-        put(b"\\");
-        put_number(b as u64);
-        put(b";");
+        put(to, b"\\")?;
+        put_number(to, b as u64)?;
+        put(to, b";")
     }
 }
 
-fn put_bytes(bytes: &[u8]) {
-    put(b" [");
+fn put_bytes(to: Stdout, bytes: &[u8]) -> io::Result<()> {
+    put(to, b" [")?;
     let mut i = 0;
     while i < bytes.len() {
-        put_byte(bytes[i]);
+        put_byte(to, bytes[i])?;
         i += 1;
     }
-    put(b"]\n");
+    put(to, b"]\n")
 }
 
 // The name of a select, by both calls.
-fn show_name(plan: Plan, names: &[u8], ends: &[usize], index: usize) {
-    put(b"name ");
-    put_verdict(text_names::check_select_name(plan, names, ends, index));
-    put_bytes(text_names::get_select_name(plan, names, ends, index));
+fn show_name(to: Stdout, plan: Plan, names: &[u8], ends: &[usize], index: usize) -> io::Result<()> {
+    put(to, b"name ")?;
+    put_verdict(to, text_names::check_select_name(plan, names, ends, index))?;
+    put_bytes(to, text_names::get_select_name(plan, names, ends, index))
 }
 
 // The text written to a buffer, and the buffer after it.
-fn show_text(plan: Plan, names: &[u8], ends: &[usize], out: &mut [u8]) {
+fn show_text(
+    to: Stdout,
+    plan: Plan,
+    names: &[u8],
+    ends: &[usize],
+    out: &mut [u8],
+) -> io::Result<()> {
     let formatted = plan_text::fmt(plan, names, ends, out);
-    put(b"text ");
+    put(to, b"text ")?;
     let verdict = formatted.verdict;
-    put_verdict(verdict);
-    put(b", length ");
-    put_number(formatted.length as u64);
-    put_bytes(out);
+    put_verdict(to, verdict)?;
+    put(to, b", length ")?;
+    put_number(to, formatted.length as u64)?;
+    put_bytes(to, out)
 }
 
 // A buffer that shows which bytes stay.
@@ -95,54 +111,69 @@ pub fn blank() -> [u8; BUFFER_BYTES]
 }
 
 // The same to a buffer of `room` bytes.
-fn show_text_in(plan: Plan, names: &[u8], ends: &[usize], room: u64) {
+fn show_text_in(to: Stdout, plan: Plan, names: &[u8], ends: &[usize], room: u64) -> io::Result<()> {
     let mut buffer = blank();
     if room <= BUFFER_BYTES as u64 {
-        show_text(plan, names, ends, &mut buffer[..room as usize]);
+        show_text(to, plan, names, ends, &mut buffer[..room as usize])?;
     }
+    Ok(())
 }
 
 // A select's name, and the text in each buffer.
-fn show_plan(text: &[u8], start: usize, plan: Plan, names: &[u8], ends: &[usize]) -> usize {
+fn show_plan(
+    to: Stdout,
+    text: &[u8],
+    start: usize,
+    plan: Plan,
+    names: &[u8],
+    ends: &[usize],
+) -> io::Result<usize> {
     let index = numbers::number_at(text, start);
-    show_name(plan, names, ends, index.value as usize);
+    show_name(to, plan, names, ends, index.value as usize)?;
     let rooms = numbers::number_at(text, index.next);
     let mut next = rooms.next;
     let mut left = rooms.value;
     while 0 < left {
         let room = numbers::number_at(text, next);
-        show_text_in(plan, names, ends, room.value);
+        show_text_in(to, plan, names, ends, room.value)?;
         next = room.next;
         left -= 1;
     }
-    next
+    Ok(next)
 }
 
 // The slots asked for.
-fn show_slots(text: &[u8], start: usize, plan: Plan, names: &[u8], ends: &[usize]) -> usize {
+fn show_slots(
+    to: Stdout,
+    text: &[u8],
+    start: usize,
+    plan: Plan,
+    names: &[u8],
+    ends: &[usize],
+) -> io::Result<usize> {
     let count = numbers::number_at(text, start);
     let mut next = count.next;
     let mut left = count.value;
     while 0 < left {
         let slot = numbers::number_at(text, next);
-        show_slot(plan, names, ends, Slot((slot.value % 65536) as u16));
+        show_slot(to, plan, names, ends, Slot((slot.value % 65536) as u16))?;
         next = slot.next;
         left -= 1;
     }
-    next
+    Ok(next)
 }
 
 // What the names' check says, whether a slot is a constant, and its name.
-fn show_slot(plan: Plan, names: &[u8], ends: &[usize], slot: Slot) {
+fn show_slot(to: Stdout, plan: Plan, names: &[u8], ends: &[usize], slot: Slot) -> io::Result<()> {
     let slots = plan.slots;
-    put(b"slot ");
-    put_verdict(text_names::check_names(plan, names, ends));
+    put(to, b"slot ")?;
+    put_verdict(to, text_names::check_names(plan, names, ends))?;
     if text_names::is_constant(slots, plan.slot_count, slot) {
-        put(b", constant");
+        put(to, b", constant")?;
     } else {
-        put(b", variable");
+        put(to, b", variable")?;
     }
-    put_bytes(text_names::get_name(slot, names, ends));
+    put_bytes(to, text_names::get_name(slot, names, ends))
 }
 
 // Bytes with their number before them, as many as there is room for.

@@ -5,15 +5,16 @@
 ghost use Rattle.std.specs.Prelude.{◌≡◌, length};
 ghost use Rattle.tables_answer.specs.Capacity.{text_bytes, answer_bytes};
 
-use libc::{STDIN_FILENO, STDOUT_FILENO};
+use std::io;
 use tables_answer::{ANSWER_BYTES, TEXT_BYTES};
+use whole_input::read_full;
 
-fn main() {
+fn main(rt: HostRuntime) -> io::Result<()> {
     let mut text = text_buffer();
-    let n = io::read_full(STDIN_FILENO, &mut text);
+    let n = read_full(&mut rt.stdin(), &mut text)?;
     let mut out = answer_buffer();
     let count = tables_answer::answer(&text[..n], &mut out);
-    io::write_all(STDOUT_FILENO, &out[..count]);
+    rt.stdout().write_all(&out[..count])
 }
 
 fn text_buffer() -> [u8; TEXT_BYTES]

@@ -1,0 +1,6 @@
+-- `read_words` ends.
+use Rattle.std.proofs.Common.{◌-◌, length}
+use Rattle.replay_given.proofs.given.read_words.Given as goal
+
+abbrev pub decreases-loop-i : goal.decreases-loop-i
+decreases-loop-i l = length l.words - l.i
