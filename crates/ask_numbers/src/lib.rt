@@ -125,6 +125,7 @@ fn digits_at(text: &[u8], start: usize, first: u64) -> Number
 }
 
 // Numbers are separated by tabs, line feeds, carriage returns and spaces.
+#[tactic(auto, unfolding(crate::specs::Words::space))]
 fn is_space(b: u8) -> bool
     ensures { result ≡ space b }
 {
@@ -157,6 +158,7 @@ fn digit_value(b: u8) -> u64
 }
 
 // Whether a byte is the next digit of a number: no digit may follow a leading zero, and the number must stay below 2^64.
+#[tactic(auto, unfolding(crate::specs::Words::goes_on))]
 fn goes_on(value: u64, b: u8) -> bool
     ensures { result ≡ goes_on value b }
 {

@@ -70,6 +70,7 @@ pub const MAX_ENDS: usize = MAX_SLOTS + 1;
 
 // Whether an input of these parts is in the layout: the last part is there and nothing follows it, the task and the kinds of the
 // statements are known, and the bytes of names are bytes.
+#[tactic(auto, unfolding(crate::specs::Parts::inside_with))]
 pub fn is_inside(words: &[u64], parts: Parts) -> bool
     ensures { result ≡ inside_with words.now parts }
 {
@@ -114,6 +115,7 @@ pub fn find_parts(words: &[u64]) -> Parts
 }
 
 // The part whose count stands at a place. Each of its items is `width` words.
+#[tactic(auto, unfolding(crate::specs::Parts::part_at))]
 fn part_at(words: &[u64], at: usize, width: usize) -> Part
     requires { 0 < width }
     ensures { result ≡ part_at words.now at width }

@@ -139,6 +139,7 @@ impl Permutations {
 }
 
 // 40: more elements than a state has counters for.
+#[tactic(auto, unfolding(crate::specs::Swaps::elements_fault))]
 fn elements_fault(n: usize) -> Verdict
     ensures { result ≡ elements_fault n }
 {

@@ -264,6 +264,7 @@ pub fn flow_of_code(code: u64) -> Flow
 }
 
 // 20: a count over its capacity. Every call over a plan starts with it.
+#[tactic(auto, unfolding(crate::specs::Plan::counts_fault))]
 pub fn check_counts(scan_count: usize, slot_count: usize, select_count: usize) -> Verdict
     ensures { result ≡ counts_fault scan_count slot_count select_count }
 {
