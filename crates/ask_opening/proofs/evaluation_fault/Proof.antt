@@ -8,10 +8,10 @@ use Rattle.ask_opening.proofs.evaluation_fault.Tie as tie
 
 returns : tie.Need-returns
 returns c =
-    c.check.ensures ∙ ap (evaluation_fault _) (tables-are _ _ c.before.before.before.before.before.requires _ _ _ c.before.before.before.items.ensures c.before.before.items2.ensures c.before.items3.ensures)
+    c.check.ensures ∙ ap (evaluation_fault _) (tables-are _ _ c.requires _ _ _ c.items.ensures c.items-2.ensures c.items-3.ensures)
 
-pub evaluation-fault-spec : {M : Type 1} → statement M
-evaluation-fault-spec =
+pub evaluation_fault_spec : {M : Type 1} → statement M
+evaluation_fault_spec =
     tie.close
     (tie.spec
     (λ c κs. search rules)

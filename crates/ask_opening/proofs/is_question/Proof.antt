@@ -6,11 +6,11 @@ use borrow.Author.Rules.{rules}
 use Rattle.ask_opening.proofs.is_question.Statement.{statement}
 use Rattle.ask_opening.proofs.is_question.Tie as tie
 
-returns : tie.Need-returns
-returns c = no-question _ _ c.before.before.before.requires (sym c.before.is-inside.ensures ∙ not-true _ c.if1.true)
+returns : tie.Need-returns-then-not-is_inside
+returns c = no-question _ _ c.requires (sym c.is_inside.ensures ∙ not-true _ c.if-not-is_inside.true-raw)
 
-returns-2 : tie.Need-returns-2
-returns-2 c = question-is _ _ c.before.before.before.before.requires _ (sym c.before.before.is-inside.ensures ∙ not-false _ c.before.if1.false) c.items.ensures
+returns-2 : tie.Need-returns
+returns-2 c = question-is _ _ c.requires _ (sym c.is_inside.ensures ∙ not-false _ c.if-not-is_inside.false-raw) c.items-names.ensures
 
-pub is-question-spec : {M : Type 1} → statement M
-is-question-spec = tie.close (tie.spec (λ c κs. search rules) returns (λ c κs. search rules) returns-2)
+pub is_question_spec : {M : Type 1} → statement M
+is_question_spec = tie.close (tie.spec (λ c κs. search rules) returns (λ c κs. search rules) returns-2)

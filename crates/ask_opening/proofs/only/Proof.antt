@@ -4,7 +4,7 @@ use Rattle.ask_opening.proofs.only.Statement.{statement}
 use Rattle.ask_opening.proofs.only.Tie as tie
 
 returns : tie.Need-returns
-returns c = rw c.empty.ensures
+returns c = rw c.empty-plan.ensures
 
-pub only-spec : {M : Type 1} → statement M
-only-spec = tie.close (tie.spec (λ c κs. search rules) returns)
+pub only_spec : {M : Type 1} → statement M
+only_spec = tie.close (tie.spec (λ c κs. search rules) returns)

@@ -9,22 +9,21 @@ use borrow.Author.Rules.{rules}
 use Rattle.ask_opening.proofs.open_named.Statement.{statement}
 use Rattle.ask_opening.proofs.open_named.Tie as tie
 
-array-share-prefix-ends : tie.Need-array-share-prefix-ends
+array-share-prefix-ends : tie.Need-slice_bounds-ends-end
 unfolding ends_count
-array-share-prefix-ends c = omega (arith, c.count-ends.ensures)
+array-share-prefix-ends c = omega (arith, c.count_ends-count.ensures)
 
-slice-aggregate-open-with : tie.Need-slice-aggregate-open-with
+slice-aggregate-open-with : tie.Need-slice_bounds-open_with-end
 unfolding ends_count
-slice-aggregate-open-with c = sym (length-take-le _ _ (omega (arith, c.before.count-ends.ensures)))
+slice-aggregate-open-with c = sym (length-take-le _ _ (omega (arith, c.count_ends-count.ensures)))
 
 returns : tie.Need-returns
 returns c =
-    let start = c.before.before.before.before.before.before.before.before.before.before.before.before.before.before.before in
-    let a = start.args in
-    opens_as (ends-as-said a.words.now a.plan a.cost a.names.now _ _ _ _ _ _ (ends_found _ _ start.requires c.before.before.before.before.before.before.before.before.before.before.before.items.ensures) c.before.before.before.before.before.before.before.word_at.ensures c.before.before.before.before.before.before.constants-of.ensures c.before.before.before.before.before.count-ends.ensures c.before.before.before.before.before.before.before.before.before.read-ends.ensures) c.before.before.open-with.ensures
+    let a = c.args in
+    opens_as (ends-as-said a.words.now a.plan a.cost a.names.now _ _ _ _ _ _ (ends_found _ _ c.requires c.items-given.ensures) c.word_at.ensures c.constants_of-constants.ensures c.count_ends-count.ensures c.read_ends.ensures) c.open_with.ensures
 
-pub open-named-spec : {M : Type 1} → statement M
-open-named-spec =
+pub open_named_spec : {M : Type 1} → statement M
+open_named_spec =
     tie.close
     (tie.spec
     (λ c κs. search rules)

@@ -9,25 +9,24 @@ use Rattle.ask_opening.proofs.open_planned.Statement.{statement}
 use Rattle.ask_opening.proofs.open_planned.Tie as tie
 
 -- there is room for the names
-few : tie.Need-array-share-prefix-names
+few : tie.Need-slice_bounds-names-end
 few c =
-    let pre = c.before.before.before.before.before.before.requires in
-    omega (arith, ap length (names-found _ _ pre.0 c.before.before.before.items.ensures), (question-names _ pre.1).1)
+    let pre = c.requires in
+    omega (arith, ap length (names-found _ _ pre.0 c.items-given.ensures), (question-names _ pre.1).1)
 
-array-share-prefix-names : tie.Need-array-share-prefix-names
+array-share-prefix-names : tie.Need-slice_bounds-names-end
 array-share-prefix-names c = few c
 
-slice-aggregate-open-named : tie.Need-slice-aggregate-open-named
+slice-aggregate-open-named : tie.Need-slice_bounds-open_named-end
 slice-aggregate-open-named c = sym (length-take-le _ _ (few c.before))
 
 returns : tie.Need-returns
 returns c =
-    let start = c.before.before.before.before.before.before.before.before.before.before.before in
-    let a = start.args in
-    opens_as (names-as-said a.words.now _ _ a.plan a.cost _ _ start.requires.1 (names-found _ _ start.requires.0 c.before.before.before.before.before.before.before.before.items.ensures) c.before.before.before.before.before.before.read-bytes.ensures.1) c.before.before.open-named.ensures
+    let a = c.args in
+    opens_as (names-as-said a.words.now _ _ a.plan a.cost _ _ c.requires.1 (names-found _ _ c.requires.0 c.items-given.ensures) c.read_bytes.ensures.1) c.open_named.ensures
 
-pub open-planned-spec : {M : Type 1} → statement M
-open-planned-spec =
+pub open_planned_spec : {M : Type 1} → statement M
+open_planned_spec =
     tie.close
     (tie.spec
     (λ c κs. search rules)

@@ -5,8 +5,8 @@ use Rattle.ask_opening.proofs.say_outside.Statement.{statement}
 use Rattle.ask_opening.proofs.say_outside.Tie as tie
 
 returns : tie.Need-returns
-returns c = opens-only _ c.only.ensures (outside-written _ _ _ c.before.before.before.write-outside.ensures)
+returns c = opens-only _ c.only.ensures (outside-written _ _ _ c.write_outside-size.ensures)
 
-pub say-outside-spec : {M : Type 1} → statement M
-say-outside-spec =
+pub say_outside_spec : {M : Type 1} → statement M
+say_outside_spec =
     tie.close (tie.spec (λ c κs. search rules) (λ c κs. search rules) (λ c. search rules) returns)

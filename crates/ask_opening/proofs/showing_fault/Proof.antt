@@ -5,14 +5,14 @@ use borrow.Author.Rules.{rules}
 use Rattle.ask_opening.proofs.showing_fault.Statement.{statement}
 use Rattle.ask_opening.proofs.showing_fault.Tie as tie
 
-returns : tie.Need-returns
-returns c = text-first _ _ _ _ _ _ c.before.before.text-fault.ensures c.enum_told.given.1
+returns : tie.Need-returns-in-Refused
+returns c = text-first _ _ _ _ _ _ c.text_fault-verdict.ensures c.in-Refused.is
 
-returns-2 : tie.Need-returns-2
-returns-2 c = c.evaluation-fault.ensures ∙ then-evaluation _ _ _ _ _ _ c.before.before.before.text-fault.ensures c.before.enum-told2.given.1
+returns-2 : tie.Need-returns
+returns-2 c = c.evaluation_fault.ensures ∙ then-evaluation _ _ _ _ _ _ c.text_fault-verdict.ensures c.in_default.is
 
-pub showing-fault-spec : {M : Type 1} → statement M
-showing-fault-spec =
+pub showing_fault_spec : {M : Type 1} → statement M
+showing_fault_spec =
     tie.close
     (tie.spec
     (λ c κs. search rules)

@@ -6,7 +6,7 @@ use Rattle.ask_opening.proofs.write_opening.Statement.{statement}
 use Rattle.ask_opening.proofs.write_opening.Tie as tie
 
 returns : tie.Need-returns
-returns c = opening-written _ _ _ _ _ (omega arith) (omega arith) c.before.before.before.before.before.before.before.before.before.before.before.requires _ _ _ _ c.before.before.before.before.before.before.fmt.ensures.0 c.before.before.before.before.before.before.fmt.ensures.1 c.before.before.write-cost.ensures
+returns c = opening-written _ _ _ _ _ (omega arith) (omega arith) c.requires _ _ _ _ c.fmt-formatted.ensures.0 c.fmt-formatted.ensures.1 c.write_cost.ensures
 
-pub write-opening-spec : {M : Type 1} → statement M
-write-opening-spec = tie.close (tie.spec (λ c κs. search rules) (λ c κs. search rules) (λ c. search rules) returns)
+pub write_opening_spec : {M : Type 1} → statement M
+write_opening_spec = tie.close (tie.spec (λ c κs. search rules) (λ c κs. search rules) (λ c. search rules) returns)

@@ -6,7 +6,7 @@ use Rattle.ask_opening.proofs.write_refusal.Statement.{statement}
 use Rattle.ask_opening.proofs.write_refusal.Tie as tie
 
 returns : tie.Need-returns
-returns c = refusal-written _ _ _ _ _ (omega arith) (omega arith) c.before.before.write-refusal.ensures
+returns c = refusal-written _ _ _ _ _ (omega arith) (omega arith) c.write_refusal.ensures
 
-pub write-refusal-spec : {M : Type 1} → statement M
-write-refusal-spec = tie.close (tie.spec (λ c κs. search rules) (λ c. search rules) returns)
+pub write_refusal_spec : {M : Type 1} → statement M
+write_refusal_spec = tie.close (tie.spec (λ c κs. search rules) (λ c. search rules) returns)
