@@ -5,10 +5,10 @@ use Rattle.ask_answer.proofs.begin.Statement.{statement}
 use Rattle.ask_answer.proofs.begin.Tie as tie
 
 returns : tie.Need-returns
-returns c = begins c.before.before.before.before.before.before.before.open.ensures c.before.before.before.word_at.ensures c.before.before.word-at2.ensures c.with-numbers.ensures
+returns c = begins c.open-opening.ensures c.word_at-from.ensures c.word_at-most.ensures c.with_numbers.ensures
 
-pub begin-spec : {M : Type 1} → statement M
-begin-spec =
+pub begin_spec : {M : Type 1} → statement M
+begin_spec =
     tie.close
     (tie.spec
     (λ c κs. search rules)

@@ -6,12 +6,10 @@ use Rattle.ask_answer.proofs.go_on.Tie as tie
 
 returns : tie.Need-returns
 returns c =
-    let tables = c.before.before.before.before.before.before.before.before in
-    let found = tables.before.before.before in
-    goes_on found.before.before.before.before.args.part found.find-parts.ensures tables.before.before.items.ensures tables.before.items2.ensures tables.items3.ensures c.before.before.before.before.show.ensures
+    goes_on c.args.part c.find_parts-parts.ensures c.items-aevt.ensures c.items-avet.ensures c.items-eavt.ensures c.show-window.ensures
 
-pub go-on-spec : {M : Type 1} → statement M
-go-on-spec =
+pub go_on_spec : {M : Type 1} → statement M
+go_on_spec =
     tie.close
     (tie.spec
     (λ c κs. search rules)

@@ -4,11 +4,11 @@ use borrow.Author.Rules.{rules}
 use Rattle.ask_answer.proofs.with_numbers.Statement.{statement}
 use Rattle.ask_answer.proofs.with_numbers.Tie as tie
 
-returns-2 : tie.Need-returns-2
+returns-2 : tie.Need-returns-then-numbers-most
 returns-2 c = omega arith
 
-returns-3 : tie.Need-returns-3
+returns-3 : tie.Need-returns-else-numbers-most
 returns-3 c = omega arith
 
-pub with-numbers-spec : {M : Type 1} → statement M
-with-numbers-spec = tie.close (tie.spec (λ c. search rules) (λ c. search rules) (λ c. search rules) returns-2 returns-3)
+pub with_numbers_spec : {M : Type 1} → statement M
+with_numbers_spec = tie.close (tie.spec (λ c. search rules) (λ c. search rules) (λ c. search rules) returns-2 returns-3)

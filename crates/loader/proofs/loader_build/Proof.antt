@@ -4,8 +4,8 @@ use borrow.Author.Rules.{rules}
 use Rattle.loader.proofs.loader_build.Statement.{statement}
 use Rattle.loader.proofs.loader_build.Tie as tie
 
-pub loader-build-spec : {M : Type 1} → statement M
-loader-build-spec =
+pub loader_build_spec : {M : Type 1} → statement M
+loader_build_spec =
     tie.close
     (tie.spec
     (λ c κs. search rules)
@@ -15,5 +15,5 @@ loader-build-spec =
     (λ c. search rules)
     (λ c. search rules)
     (λ c.
-    let b = c.before.before.before.before.before.before.before.before.build.ensures in
-    rw (c.number_of_lem.ensures, c.before.answer-of.ensures, b.1.0, b.1.1.0, b.1.1.1, b.0) (refl, (refl, (refl, (refl, refl))))))
+    let b = c.build-built.ensures in
+    rw (c.number_of.ensures, c.answer_of.ensures, b.1.0, b.1.1.0, b.1.1.1, b.0) (refl, (refl, (refl, (refl, refl))))))

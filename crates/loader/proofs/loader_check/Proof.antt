@@ -4,12 +4,12 @@ use borrow.Author.Rules.{rules}
 use Rattle.loader.proofs.loader_check.Statement.{statement}
 use Rattle.loader.proofs.loader_check.Tie as tie
 
-pub loader-check-spec : {M : Type 1} → statement M
-loader-check-spec =
+pub loader_check_spec : {M : Type 1} → statement M
+loader_check_spec =
     tie.close
     (tie.spec
     (λ c κs. search rules)
     (λ c κs. search rules)
     (λ c κs. search rules)
     (λ c κs. search rules)
-    (λ c. rw (c.number_of_lem.ensures, c.before.answer-of.ensures, c.before.before.check-invariants.ensures, c.before.before.before.read-plan.ensures) (refl, refl)))
+    (λ c. rw (c.number_of.ensures, c.answer_of.ensures, c.check_invariants-verdict.ensures, c.read_plan.ensures) (refl, refl)))

@@ -4,8 +4,8 @@ use borrow.Author.Rules.{rules}
 use Rattle.loader.proofs.loader_plan.Statement.{statement}
 use Rattle.loader.proofs.loader_plan.Tie as tie
 
-pub loader-plan-spec : {M : Type 1} → statement M
-loader-plan-spec =
+pub loader_plan_spec : {M : Type 1} → statement M
+loader_plan_spec =
     tie.close
     (tie.spec
     (λ c κs. search rules)
@@ -13,7 +13,7 @@ loader-plan-spec =
     (λ c κs. search rules)
     (λ c. search rules)
     (λ c κs. search rules)
-    (λ c. rw (c.number_of_lem.ensures, c.before.before.before.answer-of.ensures, ← c.before.before.before.before.before.read-query.ensures, ← c.before.before.before.before.plan-query.ensures, c.before.enum_told.given.1) (refl, (refl, refl)))
+    (λ c. rw (c.number_of.ensures, c.answer_of.ensures, ← c.read_query.ensures, ← c.plan_query-planned.ensures, c.in-Refused.is) (refl, (refl, refl)))
     (λ c. search rules)
     (λ c κs. search rules)
-    (λ c. rw (c.words-of-plan.ensures, c.before.before.before.before.answer-of.ensures, ← c.before.before.before.before.before.before.read-query.ensures, ← c.before.before.before.before.before.plan-query.ensures, c.before.before.enum-told2.given.1) (refl, (refl, refl))))
+    (λ c. rw (c.words_of_plan.ensures, c.answer_of.ensures, ← c.read_query.ensures, ← c.plan_query-planned.ensures, c.in_default.is) (refl, (refl, refl))))

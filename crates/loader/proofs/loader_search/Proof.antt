@@ -4,8 +4,8 @@ use borrow.Author.Rules.{rules}
 use Rattle.loader.proofs.loader_search.Statement.{statement}
 use Rattle.loader.proofs.loader_search.Tie as tie
 
-pub loader-search-spec : {M : Type 1} → statement M
-loader-search-spec =
+pub loader_search_spec : {M : Type 1} → statement M
+loader_search_spec =
     tie.close
     (tie.spec
     (λ c κs. search rules)
@@ -13,7 +13,7 @@ loader-search-spec =
     (λ c κs. search rules)
     (λ c. search rules)
     (λ c κs. search rules)
-    (λ c. rw (c.number_of_lem.ensures, c.before.before.before.answer-of.ensures, ← c.before.before.before.before.before.read-query.ensures, ← c.before.before.before.before.search-query.ensures, c.before.enum_told.given.1) (refl, (refl, (refl, refl))))
+    (λ c. rw (c.number_of.ensures, c.answer_of.ensures, ← c.read_query.ensures, ← c.search_query-found.ensures, c.in-Refused.is) (refl, (refl, (refl, refl))))
     (λ c. search rules)
     (λ c κs. search rules)
-    (λ c. rw (c.words-of-plan.ensures, c.before.before.before.before.before.answer-of.ensures, ← c.before.before.before.before.before.before.before.read-query.ensures, ← c.before.before.before.before.before.before.search-query.ensures, c.before.before.before.enum-told2.given.1) (refl, (refl, (refl, refl)))))
+    (λ c. rw (c.words_of_plan.ensures, c.answer_of.ensures, ← c.read_query.ensures, ← c.search_query-found.ensures, c.in_default.is) (refl, (refl, (refl, refl)))))

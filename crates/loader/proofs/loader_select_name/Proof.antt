@@ -4,8 +4,8 @@ use borrow.Author.Rules.{rules}
 use Rattle.loader.proofs.loader_select_name.Statement.{statement}
 use Rattle.loader.proofs.loader_select_name.Tie as tie
 
-pub loader-select-name-spec : {M : Type 1} → statement M
-loader-select-name-spec =
+pub loader_select_name_spec : {M : Type 1} → statement M
+loader_select_name_spec =
     tie.close
     (tie.spec
     (λ c κs. search rules)
@@ -13,4 +13,4 @@ loader-select-name-spec =
     (λ c κs. search rules)
     (λ c κs. search rules)
     (λ c κs. search rules)
-    (λ c. rw (c.number_of_lem.ensures, c.before.answer-of.ensures, c.before.before.get-select-name.ensures, c.before.before.before.check-select-name.ensures, c.before.before.before.before.read-plan.ensures) (refl, refl)))
+    (λ c. rw (c.number_of.ensures, c.answer_of.ensures, c.get_select_name-name.ensures, c.check_select_name-verdict.ensures, c.read_plan-read.ensures) (refl, refl)))

@@ -4,8 +4,8 @@ use borrow.Author.Rules.{rules}
 use Rattle.loader.proofs.loader_store.Statement.{statement}
 use Rattle.loader.proofs.loader_store.Tie as tie
 
-pub loader-store-spec : {M : Type 1} → statement M
-loader-store-spec =
+pub loader_store_spec : {M : Type 1} → statement M
+loader_store_spec =
     tie.close
     (tie.spec
     (λ c κs. search rules)
@@ -13,4 +13,4 @@ loader-store-spec =
     (λ c κs. search rules)
     (λ c κs. search rules)
     (λ c. search rules)
-    (λ c. rw (c.number_of_lem.ensures, c.before.answer-of.ensures, c.before.before.before.before.write-image.ensures.1, c.before.before.before.before.write-image.ensures.0, c.before.before.before.before.before.before.read-plan.ensures) (refl, (refl, refl))))
+    (λ c. rw (c.number_of.ensures, c.answer_of.ensures, c.write_image-stored.ensures.1, c.write_image-stored.ensures.0, c.read_plan-read.ensures) (refl, (refl, refl))))

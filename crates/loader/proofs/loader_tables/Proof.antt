@@ -4,11 +4,11 @@ use borrow.Author.Rules.{rules}
 use Rattle.loader.proofs.loader_tables.Statement.{statement}
 use Rattle.loader.proofs.loader_tables.Tie as tie
 
-pub loader-tables-spec : {M : Type 1} → statement M
-loader-tables-spec =
+pub loader_tables_spec : {M : Type 1} → statement M
+loader_tables_spec =
     tie.close
     (tie.spec
     (λ c κs. search rules)
     (λ c κs. search rules)
     (λ c κs. search rules)
-    (λ c. rw (c.number_of_lem.ensures, c.before.answer-of.ensures, c.before.before.check-tables.ensures) (refl, refl)))
+    (λ c. rw (c.number_of.ensures, c.answer_of.ensures, c.check_tables-verdict.ensures) (refl, refl)))

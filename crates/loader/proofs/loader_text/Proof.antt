@@ -4,8 +4,8 @@ use borrow.Author.Rules.{rules}
 use Rattle.loader.proofs.loader_text.Statement.{statement}
 use Rattle.loader.proofs.loader_text.Tie as tie
 
-pub loader-text-spec : {M : Type 1} → statement M
-loader-text-spec =
+pub loader_text_spec : {M : Type 1} → statement M
+loader_text_spec =
     tie.close
     (tie.spec
     (λ c κs. search rules)
@@ -13,4 +13,4 @@ loader-text-spec =
     (λ c κs. search rules)
     (λ c κs. search rules)
     (λ c. search rules)
-    (λ c. rw (c.number_of_lem.ensures, c.before.answer-of.ensures, c.before.before.before.before.fmt.ensures.1, c.before.before.before.before.fmt.ensures.0, c.before.before.before.before.before.before.read-plan.ensures) (refl, (refl, refl))))
+    (λ c. rw (c.number_of.ensures, c.answer_of.ensures, c.fmt-formatted.ensures.1, c.fmt-formatted.ensures.0, c.read_plan-read.ensures) (refl, (refl, refl))))

@@ -4,8 +4,8 @@ use borrow.Author.Rules.{rules}
 use Rattle.loader.proofs.loader_types.Statement.{statement}
 use Rattle.loader.proofs.loader_types.Tie as tie
 
-pub loader-types-spec : {M : Type 1} → statement M
-loader-types-spec =
+pub loader_types_spec : {M : Type 1} → statement M
+loader_types_spec =
     tie.close
     (tie.spec
     (λ c κs. search rules)
@@ -13,6 +13,6 @@ loader-types-spec =
     (λ c κs. search rules)
     (λ c. search rules)
     (λ c κs. search rules)
-    (λ c. rw (c.number_of_lem.ensures, c.before.before.before.answer-of.ensures, ← c.before.before.before.before.before.read-query.ensures, ← c.before.before.before.before.infer-types.ensures, c.before.enum_told.given.1) (refl, (refl, refl)))
+    (λ c. rw (c.number_of.ensures, c.answer_of.ensures, ← c.read_query-read.ensures, ← c.infer_types-inferred.ensures, c.in-Refused.is) (refl, (refl, refl)))
     (λ c. search rules)
-    (λ c. rw (c.before.before.before.answer-of.ensures, ← c.before.before.before.before.before.read-query.ensures, ← c.before.before.before.before.infer-types.ensures, c.before.enum-told2.given.1) (refl, (refl, refl))))
+    (λ c. rw (c.answer_of.ensures, ← c.read_query-read.ensures, ← c.infer_types-inferred.ensures, c.in_default.is) (refl, (refl, refl))))
