@@ -2,5 +2,5 @@
 use Rattle.std.proofs.Common.{◌-◌, length}
 use Rattle.replay.proofs.put_all.Given as goal
 
-abbrev pub decreases-loop-at : goal.decreases-loop-at
-decreases-loop-at l = length l.text - l.at
+abbrev pub decreases-loop-to : goal.decreases-loop-to
+decreases-loop-to l = length l.text - l.at

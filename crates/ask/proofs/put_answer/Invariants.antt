@@ -1,0 +1,11 @@
+-- `put_answer` is safe and ends: each part lies within the buffer, and with each fewer are to come.
+use Rattle.std.proofs.Common.{◌≡◌, ◌≤◌, length}
+use Rattle.ask_answer.specs.Capacity.{text_bytes, window_words}
+use Rattle.ask_answer.specs.Run.{to_come}
+use Rattle.ask.proofs.put_answer.Given as goal
+
+abbrev pub invariant-loop : goal.invariant-loop
+invariant-loop l = (length l.out ≡ text_bytes) × (length l.rows ≡ window_words) × (l.part.length ≤ length l.out)
+
+abbrev pub decreases-loop : goal.decreases-loop
+decreases-loop l = to_come l.part

@@ -1,0 +1,8 @@
+-- `window_buffer` is as long as it says.
+use Rattle.std.proofs.Common.{ℕ, sym}
+use lib.ListN.{length-replicate}
+use Rattle.ask_answer.specs.Capacity.{window_words}
+use Rattle.ask.proofs.window_buffer.Goals as goal
+
+pub returns : goal.returns
+returns c = sym (length-replicate {0} {A = ℕ} window_words 0)

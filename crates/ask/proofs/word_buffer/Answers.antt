@@ -1,0 +1,8 @@
+-- `word_buffer` is as long as it says.
+use Rattle.std.proofs.Common.{ℕ, sym}
+use lib.ListN.{length-replicate}
+use Rattle.ask_answer.specs.Capacity.{word_count}
+use Rattle.ask.proofs.word_buffer.Goals as goal
+
+pub returns : goal.returns
+returns c = sym (length-replicate {0} {A = ℕ} word_count 0)
