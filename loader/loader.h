@@ -25,7 +25,7 @@
 extern "C" {
 #endif
 
-enum { LOADER_STACK = 53248 };
+enum { LOADER_STACK = 66560 };
 
 enum {
     LOADER_MAX_STATEMENTS = 63,
