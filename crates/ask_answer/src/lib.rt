@@ -31,6 +31,7 @@ pub const WINDOW: usize = 65536;
 
 // Read the numbers of a text into the front of a buffer, and answer how many they are: none where the text is outside the layout, or
 // has too many. A text that fills its buffer may be longer than the buffer, and is not read.
+#[tactic(auto, unfolding(crate::specs::Answer::is_read, crate::specs::Parts::numbers_in, crate::specs::Parts::words_read))]
 pub fn read_question(text: &[u8], words: &mut [u64]) -> usize
     ensures { Reads text.now words.old result words.new }
 {

@@ -58,6 +58,7 @@ pub fn evaluate<'a>(
 }
 
 // Whether evaluation refuses: the plan check, 28 where there are no scans, and the check of the tables.
+#[tactic(auto, unfolding(crate::specs::Evaluation::evaluation_fault))]
 pub fn check<'a>(plan: Plan, aevt: &'a [u64], avet: &'a [u64], eavt: &'a [u64]) -> Verdict
     ensures { result ≡ evaluation_fault plan (tables_of aevt.now avet.now eavt.now) }
 {

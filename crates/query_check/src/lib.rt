@@ -31,6 +31,7 @@ pub fn check_query(query: Query) -> Verdict
 }
 
 // 10 to 13: the counts are within the capacities, and something is selected.
+#[tactic(auto, unfolding(crate::specs::Refusals::capacity_fault))]
 fn check_capacity(
     variable_count: u64,
     statement_count: usize,

@@ -83,3 +83,6 @@ module _ (text words : List ℕ) {words' : List ℕ} {r : Read} (short : length 
   reads-heap p h =
       let a = a-part (fits text) (numbers text) (drop (length (numbers text)) words) words' r.count count_is front_in p h in
       record { within = a.1.1; nothing = λ z. absurd (omega arith); heap = λ _. (holds ∙ a.0, a.1.0) }
+
+-- for the check to find
+pub ruleset reading = (too_long, no-numbers, no-heap)

@@ -37,6 +37,7 @@ pub fn answer(text: &[u8], out: &mut [u8]) -> usize
 
 // Read a heap behind its count into a buffer, and say how many numbers that are: none where the text holds no heap. A text that fills
 // its buffer may be longer than the buffer, and is not read.
+#[tactic(auto, using(crate::proofs::Reading::reading))]
 fn read_heap(text: &[u8], words: &mut [u64]) -> usize
     requires { length words.old ≡ 1 + heap_words }
     ensures { ReadsHeap text.now result words.new }
