@@ -67,6 +67,7 @@ fn plan_for(task: u64, query: Query) -> Planned
 }
 
 // Whether a task searches.
+#[tactic(auto, unfolding(crate::specs::Answer::searches))]
 fn searches(task: u64) -> bool
     ensures { result ≡ Answer·searches task }
 {
