@@ -1,5 +1,5 @@
 -- docs/LAYOUT.md, "What it writes": what stands before the rows, or all that is written.
-use Rattle.std.specs.Prelude.{◌≡◌, ℕ, ◌-◌, ◌≤◌, Bool, true, false, cond, List, [], ◌++◌, length}
+use Rattle.std.specs.Prelude.{◌≡◌, ℕ, ◌-◌, ◌≤◌, Bool, true, false, cond, List, ◌++◌, length}
 use Rattle.refusal.specs.declared.Verdict.{Verdict}
 use Rattle.refusal.specs.Verdict.{or_else, unless}
 use Rattle.plan.specs.declared.Plan.{Plan}

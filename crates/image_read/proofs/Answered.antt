@@ -10,7 +10,7 @@ use lib.Dec.{ltb}
 use lib.Pow.{pow_pos}
 use Rattle.refusal.specs.declared.Refusal.{Refusal}
 use Rattle.bits.specs.Bits.{number}
-use Rattle.image.specs.Read.{Parsed, met, stopped, and_then, ran_out, field}
+use Rattle.image.specs.Read.{Parsed, met, stopped, and_then, ran_out}
 use Rattle.image.proofs.Places.{field_at}
 use Rattle.image_read.specs.declared.fields.Cursor.{Cursor}
 use Rattle.image_read.specs.declared.fields.Next.{Next}

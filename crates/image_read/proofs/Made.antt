@@ -12,7 +12,7 @@ use Rattle.plan.specs.declared.SlotRecord.{SlotRecord}
 use Rattle.plan.specs.declared.SlotDefinition.TheVariants.{Constant}
 use Rattle.plan.specs.Codes.{index_of_code, flow_of_code}
 use Rattle.plan.specs.Plan.{variable_slot}
-use Rattle.image.specs.Read.{Parsed, met, and_then, unless_fault, field, code, slot, scan, select, slot_numbered}
+use Rattle.image.specs.Read.{Parsed, met, and_then, unless_fault, field, code, slot, select, slot_numbered}
 use Rattle.image_read.specs.declared.fields.Cursor.{Cursor}
 use Rattle.image_read.specs.declared.fields.Next.{Next}
 use Rattle.image_read.specs.declared.fields.Next.TheVariants.{At, Stopped}

@@ -3,7 +3,7 @@ use mathlib.Core.Path.{◌≡◌, refl}
 use Prim.Native.Nat.{ℕ, ◌≤◌, ◌<◌}
 use mathlib.Core.List.{List}
 use borrow.Author.Tests.{le-leb, lt-leb}
-use lib.ListN.{length, get_or, take}
+use lib.ListN.{length, take}
 use lib.Seq.{length-take-le, get_or-take}
 use Rattle.refusal.specs.Verdict.{refused, refuse_if}
 use Rattle.plan.specs.declared.Slot.{Slot}

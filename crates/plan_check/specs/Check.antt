@@ -1,6 +1,6 @@
 -- 01, "Refusal numbers": the plan check gives 20, 13, then scan by scan (21; then for each of its two slots in index order 22, then 23
 -- or 24), then 25, then select by select 26 or 29 (02, Ticket 9).
-use Rattle.std.specs.Prelude.{ℕ, ◌+◌, List, [], ◌∷◌, ◌++◌, Bool, true, false, not, ◌||◌, length, get_or, leb, eqb}
+use Rattle.std.specs.Prelude.{ℕ, ◌+◌, List, [], ◌∷◌, ◌++◌, Bool, true, false, not, ◌||◌, length, leb, eqb}
 use Rattle.lists.specs.Span.{span}
 use Rattle.refusal.specs.declared.Verdict.{Verdict}
 use Rattle.refusal.specs.declared.Verdict.TheVariants.{Fine}

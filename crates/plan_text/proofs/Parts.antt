@@ -9,7 +9,7 @@ use lib.Dec.{leb}
 use lib.ListN.{length, get_or}
 use Rattle.lists.specs.Every.{EveryPasses}
 use Rattle.lists.proofs.Every.{every_of}
-use Rattle.text_pieces.specs.Decimal.{decimal, read_on, DigitsOf}
+use Rattle.text_pieces.specs.Decimal.{decimal, read_on}
 use Rattle.text_pieces.proofs.Digits.{decimal-digits}
 
 -- what follows does not begin with one that passes a test

@@ -1,18 +1,16 @@
 -- Two plans that pass the check and have equal text, over the same names, are equal.
 use mathlib.Core.Path.{◌≡◌, refl, sym, ap, ◌∙◌}
 use mathlib.Core.Logic.{⊎_elim}
-use Prim.Native.Nat.{ℕ, zero, suc, ◌+◌, ◌≤◌, ◌<◌, min}
+use Prim.Native.Nat.{ℕ, suc, ◌≤◌, ◌<◌, min}
 use mathlib.Core.List.{List, [], ◌∷◌, ◌++◌, append_assoc}
-use mathlib.Core.Bool.{Bool, true, false, ◌||◌, false≢true}
+use mathlib.Core.Bool.{true, false, ◌||◌, false≢true}
 use native.Mathlib.Omega.{arith}
-use native.Mathlib.Nat.{not-suc-le-zero, le_antisymm, min-le_left, eq-or-lt_of_le}
+use native.Mathlib.Nat.{min-le_left, eq-or-lt_of_le}
 use borrow.Author.Tests.{eqb-true}
-use lib.Dec.{eqb}
-use lib.ListN.{length, get_or, take, get_or-eq_default}
+use lib.ListN.{length, get_or, get_or-eq_default}
 use lib.Seq.{ext_get_or, length-take-le}
 use Rattle.lists.proofs.Tests.{either}
 use Rattle.refusal.specs.declared.Verdict.TheVariants.{Fine}
-use Rattle.plan.specs.declared.Slot.{Slot}
 use Rattle.plan.specs.declared.Scan.{Scan}
 use Rattle.plan.specs.declared.SlotRecord.{SlotRecord}
 use Rattle.plan.specs.declared.SlotDefinition.{SlotDefinition}
@@ -21,7 +19,7 @@ use Rattle.plan.specs.declared.Access.{Access}
 use Rattle.plan.specs.declared.Access.TheVariants.{Reads, Writes}
 use Rattle.plan.specs.Plan.{first_slot, second_slot, first_access, second_access, is_constant, variable_slot, zero_scan, scans_of, slots_of, slots_selected, SamePlan, Filled}
 use Rattle.plan_check.specs.Check.{writes_to, first_writes, second_writes, is_written, is_set, check_of}
-use Rattle.plan_check.specs.Promised.{Fits, Promised}
+use Rattle.plan_check.specs.Promised.{Promised}
 use Rattle.plan_check.proofs.Promises.{promises}
 use Rattle.text_pieces.specs.Ascii.{ascii}
 use Rattle.plan_text.specs.Text.{constant_lines, scan_lines, selects_text, text_of}

@@ -106,8 +106,8 @@ fn lend(
     select: [Var; MAX_SELECTS],
     select_count: usize,
 ) -> Planned
-    requires fact_1 { count ≤ max_statements + 1 }
-    requires fact_2 { select_count ≤ max_selects }
+    requires few_statements { count ≤ max_statements + 1 }
+    requires few_selects { select_count ≤ max_selects }
     ensures { result ≡ plan_lent variable_count (take count statements) (take select_count select) }
 {
     planner_lent::plan(

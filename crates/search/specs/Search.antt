@@ -1,5 +1,5 @@
 -- 01, "Swaps and the search": the plans that are weighed, and the first of least cost.
-use Rattle.std.specs.Prelude.{ℕ, ◌+◌, List, [], ◌∷◌, ◌++◌, map, Bool, true, false, cond, get_or, replicate, ltb}
+use Rattle.std.specs.Prelude.{ℕ, List, [], ◌∷◌, ◌++◌, map, Bool, true, false, cond, get_or, replicate, ltb}
 use Rattle.capacity.specs.Capacity.{max_statements, max_searched}
 use Rattle.refusal.specs.declared.Verdict.{Verdict}
 use Rattle.refusal.specs.declared.Verdict.TheVariants.{Fine, Refused}

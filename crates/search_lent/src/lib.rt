@@ -62,8 +62,8 @@ fn lend(
     select: [Var; MAX_SELECTS],
     select_count: usize,
 ) -> Found
-    requires fact_1 { count ≤ max_statements }
-    requires fact_2 { select_count ≤ max_selects }
+    requires few_statements { count ≤ max_statements }
+    requires few_selects { select_count ≤ max_selects }
     ensures { result ≡ search_lent variable_count (take count statements) (take select_count select) }
 {
     search(

@@ -1,7 +1,7 @@
 -- The rows that begin with a key are those between two bounds: below the first none begins with it, nor from the second on.
 use mathlib.Core.Path.{◌≡◌, refl, ap, ◌∙◌}
 use mathlib.Core.Bool.{Bool, true, false, cond}
-use mathlib.Core.List.{List, [], ◌∷◌, ◌++◌, map, append-nil}
+use mathlib.Core.List.{List, [], ◌∷◌, ◌++◌, append-nil}
 use Prim.Native.Nat.{ℕ, zero, suc, ◌+◌, ◌*◌, ◌-◌, ◌/◌, ◌≤◌, ◌<◌}
 use native.Mathlib.Omega.{arith}
 use native.Mathlib.Nat.{add-zero, zero-add, suc-add}
@@ -9,7 +9,7 @@ use lib.ListN.{length, take, drop, length-drop}
 use lib.Seq.{length-take-le}
 use Rattle.datom.specs.Fact.{words}
 use Rattle.lists.specs.Span.{span}
-use Rattle.tables.specs.Rows.{count, row, rows_of, before, ascending, begins, keep, matching, flat, FirstRow, PastRows, Range}
+use Rattle.tables.specs.Rows.{count, row, rows_of, ascending, begins, keep, matching, FirstRow, PastRows, Range}
 use Rattle.tables.proofs.Order.{before-begins}
 use Rattle.tables.proofs.Table.{flat_rows}
 

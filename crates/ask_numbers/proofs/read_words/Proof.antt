@@ -5,7 +5,6 @@ use native.Mathlib.Omega.{arith}
 use borrow.Author.Rules.{rules}
 use borrow.Author.Tests.{not-true, not-false}
 use lib.ListN.{length}
-use Rattle.ask_numbers.specs.Words.{in_front}
 use Rattle.ask_numbers.proofs.Saying.{said-end}
 use Rattle.ask_numbers.proofs.Reading.{SoFar, none_yet, so-far-ends, so-far-leaves, so-far-full, so_far_more}
 use Rattle.ask_numbers.proofs.read_words.Statement.{statement}

@@ -1,7 +1,7 @@
 -- `fill` meets its contract: the rows of the part that was lent.
 use mathlib.Core.Path.{◌≡◌, sym}
 use native.Mathlib.Omega.{arith}
-use lib.ListN.{length, length-map}
+use lib.ListN.{length}
 use lib.Seq.{length-take-le}
 use Rattle.capacity.specs.Capacity.{max_selects}
 use Rattle.ask_rows.proofs.InFront.{room_within, fills}

@@ -1,7 +1,7 @@
 -- `evaluate` meets its contract: it is refused as `check` says, and past that the rows are shown.
 use mathlib.Core.Path.{◌≡◌, sym, ◌∙◌}
 use borrow.Author.Rules.{rules}
-use lib.ListN.{length, length-map}
+use lib.ListN.{length}
 use Rattle.capacity.specs.Capacity.{max_scans, max_selects}
 use Rattle.refusal.specs.declared.Verdict.TheVariants.{Fine}
 use Rattle.eval.proofs.Answers.{refused-answer, shown-answer, fine-evaluable}

@@ -2,7 +2,6 @@
 use Prim.Native.Nat.{◌*◌, ◌≤◌}
 use native.Mathlib.Omega.{arith}
 use borrow.Author.Rules.{rules}
-use lib.ListN.{length-map}
 use Rattle.capacity.specs.Capacity.{max_slots}
 use Rattle.plan.specs.Plan.{Filled}
 use Rattle.image_write.proofs.Written.{slots-bits, length-counted}

@@ -1,7 +1,6 @@
 -- `write_plan` meets its contract, part by part.
 use native.Mathlib.Omega.{arith}
 use borrow.Author.Rules.{rules}
-use lib.ListN.{length-map}
 use Rattle.plan.specs.Plan.{Filled}
 use Rattle.image_write.proofs.Written.{slots-bits, plan-written}
 use Rattle.image_write.proofs.write_plan.Statement.{statement}

@@ -4,13 +4,10 @@ use Prim.Native.Nat.{◌+◌}
 use mathlib.Core.List.{List}
 use native.Mathlib.Omega.{arith}
 use borrow.Author.Rules.{rules}
-use lib.ListN.{length, length-map}
+use lib.ListN.{length}
 use lib.Seq.{set_out}
-use denote.Struct.Laws as LL
 use Rattle.capacity.specs.Capacity.{max_selects}
 use Rattle.query.specs.declared.Var.{Var}
-use Rattle.query.specs.contracts.Selects as S
-use Rattle.query.proofs.Selects.TheLaws as S'
 use Rattle.planner_lent.proofs.push_select.Statement.{statement}
 use Rattle.planner_lent.proofs.push_select.Tie as tie
 

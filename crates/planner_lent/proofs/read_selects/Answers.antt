@@ -1,8 +1,7 @@
 -- `read_selects` meets its contract: a turn reads one more, and at the end all are read.
-use mathlib.Core.Path.{◌≡◌, sym, ◌∙◌}
+use mathlib.Core.Path.{◌∙◌}
 use native.Mathlib.Omega.{arith}
-use lib.ListN.{length}
-use Rattle.planner_lent.proofs.Read.{one_fits, next-select, all-selects}
+use Rattle.planner_lent.proofs.Read.{next-select, all-selects}
 use Rattle.planner_lent.proofs.read_selects.Goals as goal
 
 pub returns : goal.returns

@@ -2,7 +2,7 @@
 use mathlib.Core.Path.{◌≡◌, sym, ap, ◌∙◌}
 use borrow.Author.Rules.{rules}
 use borrow.Author.Tests.{not-true, not-false}
-use lib.ListN.{length, length-map}
+use lib.ListN.{length}
 use Rattle.capacity.specs.Capacity.{max_statements, max_selects}
 use Rattle.refusal.specs.declared.Verdict.TheVariants.{Fine}
 use Rattle.query.specs.Query.{statements_of}

@@ -1,6 +1,5 @@
 -- `write_byte` meets its contract: the byte, or its escape.
-use mathlib.Core.Path.{◌≡◌, sym, ◌∙◌}
-use native.Mathlib.Omega.{arith}
+use mathlib.Core.Path.{sym, ◌∙◌}
 use borrow.Author.Rules.{rules}
 use Rattle.text_pieces.specs.Escaped.{escaped_byte}
 use Rattle.text_pieces.proofs.write_byte.Statement.{statement}

@@ -1,9 +1,8 @@
 -- `write_escaped` meets its contract: before turn i the first i bytes are written.
-use mathlib.Core.Path.{◌≡◌, refl, sym, ap, ◌∙◌}
-use Prim.Native.Nat.{◌≤◌, ◌-◌, ◌+◌}
+use Prim.Native.Nat.{◌≤◌, ◌-◌}
 use native.Mathlib.Omega.{arith}
 use borrow.Author.Rules.{rules}
-use lib.ListN.{length, take, get_or}
+use lib.ListN.{length, take}
 use lib.Seq.{take_all}
 use Rattle.lists.proofs.Laid.{laid_none, laid-step}
 use Rattle.text_pieces.specs.Written.{Written}

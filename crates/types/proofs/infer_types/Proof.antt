@@ -3,7 +3,7 @@ use mathlib.Core.Path.{◌≡◌, sym, ◌∙◌}
 use mathlib.Core.Bool.{true}
 use borrow.Author.Rules.{rules}
 use borrow.Author.Tests.{not-true, not-false}
-use lib.ListN.{length, length-map}
+use lib.ListN.{length}
 use Rattle.capacity.specs.Capacity.{max_statements}
 use Rattle.refusal.specs.declared.Verdict.TheVariants.{Fine}
 use Rattle.planner.specs.Refusals.{plan_fault}

@@ -2,7 +2,7 @@
 -- to have names, with the facts that hold there. An answer finds one by its type, `let h : Head = search`; only from place to place is the
 -- way written out.
 use mathlib.Core.Path.{◌≡◌, subst, ◌∙◌}
-use mathlib.Core.Bool.{Bool, true}
+use mathlib.Core.Bool.{Bool}
 use mathlib.Core.List.{List}
 use Prim.Native.Nat.{ℕ, ◌+◌, ◌*◌, ◌-◌, ◌^◌, ◌≤◌, ◌<◌}
 use native.Mathlib.Omega.{arith}
