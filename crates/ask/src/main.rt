@@ -27,10 +27,14 @@ fn put_answer(to: Stdout, words: &[u64], out: &mut [u8]) -> io::Result<()>
     loop {
         let count = part.length;
         to.write_all(&out[..count])?;
-        if part.last {
+        let Some(following) = part.following else {
             return Ok(());
-        }
-        part = ask_answer::go_on(words, part, &mut rows, out);
+        };
+        // evaluation was not refused when the answer began
+        let Ok(next) = ask_answer::go_on(words, following, &mut rows, out) else {
+            return Ok(());
+        };
+        part = next;
     }
 }
 

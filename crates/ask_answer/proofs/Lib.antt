@@ -2,3 +2,4 @@ pub mod Reading
 pub mod Handed
 pub mod Theorem
 pub mod OneAnswer
+pub mod Bytes

@@ -3,6 +3,9 @@ use mathlib.Core.Path.{◌≡◌}
 use mathlib.Core.List.{List}
 use Prim.Native.Nat.{ℕ}
 use Rattle.refusal.proofs.OneAnswer.{one_answer}
+use Rattle.std.specs.Prelude.{Result}
+use Rattle.refusal.specs.declared.Refusal.{Refusal}
+use Rattle.ask_answer.specs.declared.Following.{Following}
 use Rattle.ask_answer.specs.declared.Part.{Part}
 use Rattle.ask_answer.specs.Parts.{Reads, Begins, GoesOn}
 use Rattle.ask_answer.specs.Run.{Run}
@@ -17,7 +20,7 @@ pub begin-one : {ws out out₁ out₂ : List ℕ} {r₁ r₂ : Part} → Begins 
 begin-one v w = (one_answer v.part_is w.part_is, one_answer v.out_is w.out_is)
 
 -- `go_on`, the two buffers included
-pub go-on-one : {ws rows out rows₁ rows₂ out₁ out₂ : List ℕ} {p r₁ r₂ : Part} → GoesOn ws p rows out r₁ rows₁ out₁ → GoesOn ws p rows out r₂ rows₂ out₂
+pub go-on-one : {ws rows out rows₁ rows₂ out₁ out₂ : List ℕ} {f : Following} {r₁ r₂ : Result Part Refusal} → GoesOn ws f rows out r₁ rows₁ out₁ → GoesOn ws f rows out r₂ rows₂ out₂
     → (r₁ ≡ r₂) × ((rows₁ ≡ rows₂) × (out₁ ≡ out₂))
 go-on-one v w = (one_answer v.part_is w.part_is, (one_answer v.rows_are w.rows_are, one_answer v.out_is w.out_is))
 

@@ -8,7 +8,7 @@ use borrow.Author.Tests.{leb-true, lt-ltb, le-ltb}
 use lib.ListN.{length, take, drop}
 use lib.Seq.{take_all, take-append_seam}
 use lib.Dec.{leb, ltb}
-use Rattle.ask_numbers.specs.declared.Read.{Read}
+use Rattle.std.specs.Prelude.{Option, Some, None, unwrap_or}
 use Rattle.ask_numbers.specs.Words.{said, read_from, over, read_of, words_after}
 use Rattle.ask_answer.specs.Capacity.{text_bytes}
 use Rattle.ask_answer.specs.Answer.{is_read}
@@ -24,13 +24,13 @@ module _ (text words : List ℕ) where
   too_long h = let long = le-ltb (length text) text_bytes h in record { count_is = rw long refl; words_are = rw long refl }
 
   -- any other is
-  pub reads : length text < text_bytes → (r : Read) (words' : List ℕ) → r ≡ read_of text (length words) → words' ≡ words_after text words → Reads text words r.count words'
+  pub reads : length text < text_bytes → (r : Option ℕ) (words' : List ℕ) → r ≡ read_of text (length words) → words' ≡ words_after text words → Reads text words (unwrap_or r 0) words'
   unfolding is_read numbers_in words_read read_from
   reads h r words' e f =
       let short = lt-ltb (length text) text_bytes h in
       record { count_is = rw (short, e) (as_many ((said text).inside && leb (length numbers) (length words))); words_are = rw short f }
     where
-      as_many : (b : Bool) → (cond {A = Read} b (record { inside = true; count = length numbers }) (record { inside = false; count = 0 })).count ≡ length (cond b numbers [])
+      as_many : (b : Bool) → unwrap_or (cond b (Some (length numbers)) None) 0 ≡ length (cond b numbers [])
       as_many true = refl
       as_many false = refl
 

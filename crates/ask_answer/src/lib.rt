@@ -6,18 +6,22 @@ ghost use Rattle.std.specs.Prelude.{◌≡◌, ◌-◌, ◌^◌, min, length};
 ghost use Rattle.ask_answer.specs.Parts.{Reads, Begins, GoesOn};
 
 use plan::Plan;
-use refusal::Verdict;
+use refusal::Refusal;
+use tables::Tables;
 
-// A part of the answer: whether evaluation is refused; how many bytes it has and whether it is the last; and for the part after it the
-// plan whose rows follow, the number of the next row, and how many are left to show.
+// The rows that are still to be shown: the plan, the number of the next row, and how many are left.
 #[derive(Clone, Copy)]
-pub struct Part {
-    pub verdict: Verdict,
-    pub length: usize,
-    pub last: bool,
+pub struct Following {
     pub plan: Plan,
     pub from: u64,
     pub left: u64,
+}
+
+// A part of the answer: how many bytes it has, and the rows that follow it, unless it is the last.
+#[derive(Clone, Copy)]
+pub struct Part {
+    pub length: usize,
+    pub following: Option<Following>,
 }
 
 // A text is shorter than this, in bytes.
@@ -38,8 +42,7 @@ pub fn read_question(text: &[u8], words: &mut [u64]) -> usize
     if TEXT_BYTES <= text.len() {
         return 0;
     }
-    let read = ask_numbers::read_words(text, words);
-    read.count
+    ask_numbers::read_words(text, words).unwrap_or(0)
 }
 
 // Write the first part, what is said of the numbers, to the front of a buffer.
@@ -47,16 +50,21 @@ pub fn begin(words: &[u64], out: &mut [u8]) -> Part
     ensures { Begins words.now out.old result out.new }
 {
     let opening = ask_opening::open(words, out);
-    let plan = opening.plan;
     let from = ask_question::word_at(words, ask_question::FROM);
     let most = ask_question::word_at(words, ask_question::MOST);
-    Part {
-        verdict: Verdict::Fine,
-        length: opening.length,
-        last: !opening.rows,
-        plan,
-        from,
-        left: with_numbers(from, most),
+    match opening.plan {
+        Some(plan) => Part {
+            length: opening.length,
+            following: Some(Following {
+                plan,
+                from,
+                left: with_numbers(from, most),
+            }),
+        },
+        None => Part {
+            length: opening.length,
+            following: None,
+        },
     }
 }
 
@@ -67,28 +75,38 @@ fn with_numbers(from: u64, most: u64) -> u64
     if from == 0 {
         return most;
     }
-    let numbers = u64::MAX - from + 1;
-    if numbers < most { numbers } else { most }
+    most.min(u64::MAX - from + 1)
 }
 
 // Write the part that follows another, the next window of rows, to the front of a buffer. On a refusal of evaluation both buffers stay as
 // they are.
-pub fn go_on(words: &[u64], part: Part, rows: &mut [u64], out: &mut [u8]) -> Part
-    ensures { GoesOn words.now part rows.old out.old result rows.new out.new }
+pub fn go_on(
+    words: &[u64],
+    following: Following,
+    rows: &mut [u64],
+    out: &mut [u8],
+) -> Result<Part, Refusal>
+    ensures { GoesOn words.now following rows.old out.old result rows.new out.new }
 {
     let parts = ask_question::find_parts(words);
     let aevt = ask_question::items(words, parts.aevt);
     let avet = ask_question::items(words, parts.avet);
     let eavt = ask_question::items(words, parts.eavt);
-    let plan = part.plan;
-    let window = ask_rows::show(plan, aevt, avet, eavt, part.from, part.left, rows, out);
-    let verdict = window.verdict;
-    Part {
-        verdict,
-        length: window.length,
-        last: window.last,
-        plan,
-        from: window.from,
-        left: window.left,
+    let plan = following.plan;
+    let tables = Tables { aevt, avet, eavt };
+    let window = ask_rows::show(plan, &tables, following.from, following.left, rows, out)?;
+    if window.last {
+        return Ok(Part {
+            length: window.length,
+            following: None,
+        });
     }
+    Ok(Part {
+        length: window.length,
+        following: Some(Following {
+            plan,
+            from: window.from,
+            left: window.left,
+        }),
+    })
 }

@@ -1,7 +1,8 @@
 -- docs/LAYOUT.md, "What it writes": the line for input outside the layout, a refusal, the cost, and rows.
+use Rattle.refusal.specs.Verdict.{number_in}
 use Rattle.std.specs.Prelude.{ℕ, ◌-◌, cond, List, [], ◌∷◌, ◌++◌, leb}
-use Rattle.refusal.specs.declared.Verdict.{Verdict}
-use Rattle.refusal.specs.declared.Verdict.TheVariants.{Fine, Refused}
+use Rattle.refusal.specs.Verdict.{Verdict, number_in}
+use Rattle.std.specs.Prelude.{Ok, Err}
 use Rattle.text_pieces.specs.Ascii.{ascii}
 use Rattle.text_pieces.specs.Decimal.{decimal}
 
@@ -15,8 +16,8 @@ refusal_line number place = ascii "refused " ++ decimal number ++ ascii " at " +
 
 -- of a verdict: its refusal, alone
 abbrev pub refusal_text : Verdict → List ℕ
-refusal_text Fine = []
-refusal_text (Refused r) = refusal_line r.number r.place
+refusal_text (Ok tt) = []
+refusal_text (Err r) = refusal_line (number_in r.rule) r.place
 
 -- the cost stands on a line of its own, after the last line of the plan text
 unfoldable pub cost_line : ℕ → List ℕ

@@ -1,72 +1,63 @@
-// What the program writes besides the plan text (docs/LAYOUT.md, "What it writes"): each function writes its lines over a lent buffer
-// from a position on, and answers the position after them.
+// What the program writes besides the plan text (docs/LAYOUT.md, "What it writes"), over a lent buffer by a pen.
 #![tactic(auto)]
 
-ghost use Rattle.std.specs.Prelude.{◌≡◌};
-ghost use Rattle.text_pieces.specs.Written.{Written};
-ghost use Rattle.ask_lines.specs.Lines.{outside_line, refusal_line, cost_line, word_text, left_after, row_lines};
+ghost use Rattle.std.specs.Prelude.{◌≡◌, Err};
+ghost use Rattle.text_pieces.specs.Wrote.{Wrote};
+ghost use Rattle.ask_lines.specs.Lines.{outside_line, refusal_text, cost_line, word_text, left_after, row_lines};
 
-use text_pieces::{write, write_decimal};
+use refusal::Refusal;
+use text_pieces::Pen;
 
 // Input outside the layout.
-pub fn write_outside(start: usize, out: &mut [u8]) -> usize
-    ensures { Written outside_line start out.old result out.new }
+pub fn write_outside(pen: &mut Pen)
+    ensures { Wrote outside_line pen.old pen.new }
 {
-    write(b"outside the layout\n", start, out)
+    pen.write(b"outside the layout\n");
 }
 
 // A refusal, alone.
-pub fn write_refusal(number: u8, place: usize, start: usize, out: &mut [u8]) -> usize
-    ensures { Written (refusal_line number place) start out.old result out.new }
+pub fn write_refusal(refusal: Refusal, pen: &mut Pen)
+    ensures { Wrote (refusal_text (Err refusal)) pen.old pen.new }
 {
-    let at = write(b"refused ", start, out);
-    let at = write_decimal(number as u64, at, out);
-    let at = write(b" at ", at, out);
-    let at = write_decimal(place as u64, at, out);
-    write(b"\n", at, out)
+    pen.write(b"refused ");
+    pen.write_decimal(u64::from(refusal.rule.number()));
+    pen.write(b" at ");
+    pen.write_decimal(refusal.place as u64);
+    pen.write(b"\n");
 }
 
 // The end of the plan text's last line, and the cost.
-pub fn write_cost(cost: u64, start: usize, out: &mut [u8]) -> usize
-    ensures { Written (cost_line cost) start out.old result out.new }
+pub fn write_cost(cost: u64, pen: &mut Pen)
+    ensures { Wrote (cost_line cost) pen.old pen.new }
 {
-    let at = write(b"\ncost ", start, out);
-    let at = write_decimal(cost, at, out);
-    write(b"\n", at, out)
+    pen.write(b"\ncost ");
+    pen.write_decimal(cost);
+    pen.write(b"\n");
 }
 
 // Rows of `width` words, a line for each.
-pub fn write_rows(words: &[u64], width: usize, start: usize, out: &mut [u8]) -> usize
-    ensures { Written (row_lines width width words.now) start out.old result out.new }
+pub fn write_rows(words: &[u64], width: usize, pen: &mut Pen)
+    ensures { Wrote (row_lines width width words.now) pen.old pen.new }
 {
-    let mut at = start;
     let mut left = width;
-    let mut i = 0;
-    while i < words.len() {
-        at = write_word(words[i], left, at, out);
+    for word in words {
+        write_word(*word, left, pen);
         left = left_after(left, width);
-        i += 1;
     }
-    at
 }
 
 // A word and a space; or, for the last word of a row, a line feed. `left` counts the words of the row from this one on.
-fn write_word(word: u64, left: usize, start: usize, out: &mut [u8]) -> usize
-    ensures { Written (word_text word left) start out.old result out.new }
+fn write_word(word: u64, left: usize, pen: &mut Pen)
+    ensures { Wrote (word_text word left) pen.old pen.new }
 {
-    let at = write_decimal(word, start, out);
-    if left <= 1 {
-        return write(b"\n", at, out);
-    }
-    write(b" ", at, out)
+    pen.write_decimal(word);
+    pen.write(if left <= 1 { b"\n" } else { b" " });
 }
 
 // How many words of a row are left after one.
+#[tactic(auto, unfolding(crate::specs::Lines::left_after), using(std::proofs::lemmas::Bool::Decides::nat_tests))]
 fn left_after(left: usize, width: usize) -> usize
     ensures { result ≡ left_after left width }
 {
-    if left <= 1 {
-        return width;
-    }
-    left - 1
+    if left <= 1 { width } else { left - 1 }
 }

@@ -8,11 +8,9 @@ use native.Mathlib.Omega.{arith}
 use lib.ListN.{length, take, drop, set, length-append, length-set, drop_of_length-le}
 use lib.Seq.{take_all, take_at, take-suc-set, drop_at, drop-drop, set_split, length-take-le}
 use borrow.Author.Tests.{le-leb, lt-leb}
-use Rattle.ask_numbers.specs.declared.Read.{Read}
+use Rattle.std.specs.Prelude.{Some, None}
+use Rattle.ask_numbers.specs.Steps.{Skipped}
 use Rattle.ask_numbers.specs.Words.{Said, in_front, end, outside, said, read_from, over, read_of, words_after}
-
-abbrev none : Read
-none = record { inside = false; count = 0 }
 
 no_room : {A : Type 0} (i b : Bool) (x y : A) → b ≡ false → y ≡ cond (i && b) x y
 no_room true b x y h = rw h
@@ -21,7 +19,7 @@ no_room false b x y h = refl
 module _ (ws buffer : List ℕ) (s : Said) where
   module _ (room : length ws ≤ length buffer) where
     -- all was said
-    pub ends-answer : s ≡ in_front ws end → record { inside = true; count = length ws } ≡ read_from s (length buffer)
+    pub ends-answer : s ≡ in_front ws end → Some (length ws) ≡ read_from s (length buffer)
     unfolding read_from
     ends-answer e = rw (e, append-nil, le-leb (length ws) (length buffer) room)
 
@@ -30,13 +28,13 @@ module _ (ws buffer : List ℕ) (s : Said) where
     over-all b n e = rw (e, n, append-nil, take_all (length buffer) ws room)
 
   -- the text is outside the layout
-  pub leaves-answer : s ≡ in_front ws outside → none ≡ read_from s (length buffer)
+  pub leaves-answer : s ≡ in_front ws outside → None ≡ read_from s (length buffer)
   unfolding read_from
   leaves-answer e = rw e
 
   -- there is no room for one more
   module _ (v : ℕ) (t : Said) (full : length ws ≡ length buffer) (e : s ≡ in_front ws (in_front (v ∷ []) t)) where
-    pub full-answer : none ≡ read_from s (length buffer)
+    pub full-answer : None ≡ read_from s (length buffer)
     unfolding read_from
     full-answer =
         let l = length-append ws (v ∷ t.words) in
@@ -74,8 +72,9 @@ pub record SoFar (text buffer words : List ℕ) (at count : ℕ) : Type 0 where
   pub rest : said text ≡ in_front (take count words) (said (drop at text))
   pub front : words ≡ take count words ++ drop count buffer
 
-pub none_yet : (text buffer : List ℕ) → SoFar text buffer buffer 0 0
-none_yet text buffer = record { within = omega arith; room = omega arith; as_long = refl; rest = refl; front = refl }
+-- none is read yet, spaces are passed over
+pub so_far_begins : (text buffer : List ℕ) {at : ℕ} → Skipped text 0 at → SoFar text buffer buffer at 0
+so_far_begins text buffer s = record { within = s.within; room = omega arith; as_long = refl; rest = s.same; front = refl }
 
 module _ {text buffer words : List ℕ} {at count : ℕ} (f : SoFar text buffer words at count) where
   counted : length (take count words) ≡ count
@@ -88,32 +87,33 @@ module _ {text buffer words : List ℕ} {at count : ℕ} (f : SoFar text buffer 
   fits = omega (arith, counted, f.room)
 
   pub so-far-ends : said (drop at text) ≡ end
-      → ◌≡◌ {A = Read} (record { inside = true; count = count }) (read_of text (length buffer)) × (words ≡ words_after text buffer)
+      → (Some count ≡ read_of text (length buffer)) × (words ≡ words_after text buffer)
   so-far-ends e =
       let s : said text ≡ in_front (take count words) end = rw e at f.rest in (
         rw counted at (ends-answer (take count words) buffer (said text) fits s),
         front-is ∙ over-all (take count words) buffer (said text) fits end refl s,
       )
 
-  pub so-far-leaves : said (drop at text) ≡ outside → (none ≡ read_of text (length buffer)) × (words ≡ words_after text buffer)
+  pub so-far-leaves : said (drop at text) ≡ outside → (None ≡ read_of text (length buffer)) × (words ≡ words_after text buffer)
   so-far-leaves e =
       let s : said text ≡ in_front (take count words) outside = rw e at f.rest in
       (leaves-answer (take count words) buffer (said text) s, front-is ∙ over-all (take count words) buffer (said text) fits outside refl s)
 
   pub so-far-full : (v : ℕ) (t : Said) → length buffer ≤ count → said (drop at text) ≡ in_front (v ∷ []) t
-      → (none ≡ read_of text (length buffer)) × (words ≡ words_after text buffer)
+      → (None ≡ read_of text (length buffer)) × (words ≡ words_after text buffer)
   so-far-full v t h e =
       let s : said text ≡ in_front (take count words) (in_front (v ∷ []) t) = rw e at f.rest in
       let l : length (take count words) ≡ length buffer = omega (arith, counted, f.room) in
       (full-answer (take count words) buffer (said text) v t l s, front-is ∙ full-over (take count words) buffer (said text) v t l s)
 
-  pub so_far_more : (v next : ℕ) → count < length words → next ≤ length text → said (drop at text) ≡ in_front (v ∷ []) (said (drop next text))
-      → SoFar text buffer (set words count v) next (count + 1)
-  so_far_more v next h n e =
+  -- one more is read, and spaces are passed over
+  pub so_far_on : (v next : ℕ) {at' : ℕ} → count < length words → said (drop at text) ≡ in_front (v ∷ []) (said (drop next text)) → Skipped text next at'
+      → SoFar text buffer (set words count v) at' (count + 1)
+  so_far_on v next {at'} h e k =
       let t : take (count + 1) (set words count v) ≡ take count words ++ (v ∷ []) = rw (add-one, take-suc-set words count v h) in
-      let s : said text ≡ in_front (take count words) (in_front (v ∷ []) (said (drop next text))) = rw e at f.rest in
+      let s : said text ≡ in_front (take count words) (in_front (v ∷ []) (said (drop at' text))) = rw (e, k.same) at f.rest in
       record {
-        within = n;
+        within = k.within;
         room = omega (arith, f.as_long);
         as_long = simp length-set f.as_long;
         rest = s ∙ simp (t, append_assoc);

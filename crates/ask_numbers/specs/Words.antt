@@ -1,7 +1,6 @@
 -- docs/LAYOUT.md, "Numbers": what a text of bytes says.
-use Rattle.std.specs.Prelude.{ℕ, ◌+◌, ◌-◌, ◌*◌, ◌^◌, Bool, true, false, cond, ◌&&◌, ◌||◌, List, [], ◌∷◌, ◌++◌, length, take, drop, leb, ltb, eqb}
+use Rattle.std.specs.Prelude.{ℕ, ◌+◌, ◌-◌, ◌*◌, ◌^◌, Bool, true, false, cond, ◌&&◌, ◌||◌, Option, Some, None, List, [], ◌∷◌, ◌++◌, length, take, drop, leb, ltb, eqb}
 use Rattle.text_pieces.specs.Decimal.{digit as digitByte}
-use Rattle.ask_numbers.specs.declared.Read.{Read}
 
 -- the bytes that separate numbers: tab, line feed, carriage return, space
 unfoldable pub space : ℕ → Bool
@@ -50,17 +49,16 @@ unfoldable mutual
   said_after [] v = in_front (v ∷ []) end
   said_after (b ∷ bs) v = cond (space b) (in_front (v ∷ []) (said bs)) (cond (goes_on v b) (said_after bs (longer v b)) outside)
 
--- whether all is in the layout and there is room for its numbers, and how many there are; else none
-unfoldable pub read_from : Said → ℕ → Read
-read_from s room =
-    cond (s.inside && leb (length s.words) room) (record { inside = true; count = length s.words }) (record { inside = false; count = 0 })
+-- how many numbers there are, where all is in the layout and there is room for them; else none
+unfoldable pub read_from : Said → ℕ → Option ℕ
+read_from s room = cond (s.inside && leb (length s.words) room) (Some (length s.words)) None
 
 -- numbers over the front of a buffer, as many as it has room for
 unfoldable pub over : List ℕ → List ℕ → List ℕ
 over ws buffer = take (length buffer) ws ++ drop (length ws) buffer
 
 -- what is read of a text into a buffer of `room` words
-abbrev pub read_of : List ℕ → ℕ → Read
+abbrev pub read_of : List ℕ → ℕ → Option ℕ
 read_of text room = read_from (said text) room
 
 -- and the buffer after it

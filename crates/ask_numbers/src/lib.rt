@@ -1,63 +1,36 @@
 // The numbers of the program's input: a text of decimal numbers becomes words (docs/LAYOUT.md, "Numbers").
 #![tactic(auto)]
 
-ghost use Rattle.std.specs.Prelude.{◌≡◌, false, true, ◌-◌, ◌≤◌, ◌<◌, length, get_or};
-ghost use Rattle.ask_numbers.specs.Words.{space, digit, digit_value, goes_on, read_of, words_after};
-ghost use Rattle.ask_numbers.specs.Words.{longer as Words·longer};
+ghost use Rattle.std.specs.Prelude.{◌≡◌, false, true, ◌≤◌, ◌<◌, length, get_or, MatchOption};
+ghost use Rattle.ask_numbers.specs.Words.{space, digit, digit_value, longer, goes_on, read_of, words_after};
 ghost use Rattle.ask_numbers.specs.Steps.{Skipped, NumberFrom, DigitsFrom};
 
-// Whether a text is in the layout, and how many numbers it has.
-#[derive(Clone, Copy)]
-pub struct Read {
-    pub inside: bool,
-    pub count: usize,
-}
-
-// A number that was read, and the place after it; or that the text is outside the layout from there on.
+// A number that was read, and the place after it.
 #[derive(Clone, Copy)]
 struct Number {
-    inside: bool,
     value: u64,
     next: usize,
 }
 
-// Read the numbers of a text into the front of a buffer. Where the text is outside the layout, or has more numbers than the buffer has
-// words, the buffer holds the numbers that were read before that place.
-pub fn read_words(text: &[u8], words: &mut [u64]) -> Read
+// Read the numbers of a text into the front of a buffer, and say how many they are. Where the text is outside the layout, or has more
+// numbers than the buffer has words, none are, and the buffer holds the numbers that were read before that place.
+pub fn read_words(text: &[u8], words: &mut [u64]) -> Option<usize>
     ensures value { result ≡ read_of text.now (length words.old) }
     ensures words_after { words.new ≡ words_after text.now words.old }
 {
-    let mut at = 0;
     let mut count = 0;
+    let mut at = skip(text, 0);
+    // no iterator: a number says itself where the next may begin
     while at < text.len() {
-        let start = skip(text, at);
-        if text.len() <= start {
-            return Read {
-                inside: true,
-                count,
-            };
-        }
-        let number = number_at(text, start);
-        if !number.inside {
-            return Read {
-                inside: false,
-                count: 0,
-            };
-        }
+        let number = number_at(text, at)?;
         if words.len() <= count {
-            return Read {
-                inside: false,
-                count: 0,
-            };
+            return None;
         }
         words[count] = number.value;
         count += 1;
-        at = number.next;
+        at = skip(text, number.next);
     }
-    Read {
-        inside: true,
-        count,
-    }
+    Some(count)
 }
 
 // The first place at or after `start` that is not a space, or the end.
@@ -65,63 +38,41 @@ fn skip(text: &[u8], start: usize) -> usize
     requires { start ≤ length text.now }
     ensures { Skipped text.now start result }
 {
-    let mut at = start;
-    while at < text.len() {
+    for at in start..text.len() {
         if !is_space(text[at]) {
             return at;
         }
-        at += 1;
     }
-    at
+    text.len()
 }
 
-// The number that begins at a place.
-fn number_at(text: &[u8], start: usize) -> Number
-    requires { (start < length text.now) × (space (get_or text.now start 0) ≡ false) }
-    ensures { NumberFrom text.now start result.inside result.value result.next }
+// The number that begins at a place; none where the text is outside the layout from there on.
+fn number_at(text: &[u8], start: usize) -> Option<Number>
+    requires in_text { start < length text.now }
+    requires no_space { space (get_or text.now start 0) ≡ false }
+    ensures { NumberFrom text.now start result }
 {
-    let b = text[start];
-    if !is_digit(b) {
-        return Number {
-            inside: false,
-            value: 0,
-            next: start,
-        };
-    }
-    digits_at(text, start + 1, digit_value(b))
+    let first = digit(text[start])?;
+    digits_at(text, start + 1, first)
 }
 
 // The number whose digits before `start` read as `first`.
-fn digits_at(text: &[u8], start: usize, first: u64) -> Number
+fn digits_at(text: &[u8], start: usize, first: u64) -> Option<Number>
     requires { start ≤ length text.now }
-    ensures { DigitsFrom text.now start first result.inside result.value result.next }
+    ensures { DigitsFrom text.now start first result }
 {
     let mut value = first;
-    let mut at = start;
-    while at < text.len() {
+    for at in start..text.len() {
         let b = text[at];
         if is_space(b) {
-            return Number {
-                inside: true,
-                value,
-                next: at,
-            };
+            return Some(Number { value, next: at });
         }
-        if !goes_on(value, b) {
-            return Number {
-                inside: false,
-                value: 0,
-                next: at,
-            };
-        }
-        value = longer(value, b);
-        at += 1;
+        value = longer(value, b)?;
     }
-    Number {
-        inside: true,
+    Some(Number {
         value,
-        next: at,
-    }
+        next: text.len(),
+    })
 }
 
 // Numbers are separated by tabs, line feeds, carriage returns and spaces.
@@ -129,51 +80,28 @@ fn digits_at(text: &[u8], start: usize, first: u64) -> Number
 fn is_space(b: u8) -> bool
     ensures { result ≡ space b }
 {
-    if b == b'\t' {
-        return true;
-    }
-    if b == b'\n' {
-        return true;
-    }
-    if b == b'\r' {
-        return true;
-    }
-    b == b' '
+    matches!(b, b'\t' | b'\n' | b'\r' | b' ')
 }
 
-fn is_digit(b: u8) -> bool
-    ensures { result ≡ digit b }
+// What a digit counts.
+#[tactic(auto, unfolding(crate::specs::Words::digit), using(std::proofs::lemmas::Bool::Decides::nat_tests))]
+fn digit(b: u8) -> Option<u64>
+    ensures { MatchOption result (digit b ≡ false) (λ d. (digit b ≡ true) × (d ≡ digit_value b)) }
 {
-    if b < b'0' {
-        return false;
+    match b {
+        b'0'..=b'9' => Some(u64::from(b - b'0')),
+        _ => None,
     }
-    b <= b'9'
 }
 
-fn digit_value(b: u8) -> u64
-    requires { digit b ≡ true }
-    ensures { result ≡ digit_value b }
+// A number with one more digit: none where the byte is not its next digit. No digit may follow a leading zero, and the number must stay
+// below 2^64.
+fn longer(value: u64, b: u8) -> Option<u64>
+    ensures { MatchOption result (goes_on value b ≡ false) (λ n. (goes_on value b ≡ true) × (n ≡ longer value b)) }
 {
-    (b - b'0') as u64
-}
-
-// Whether a byte is the next digit of a number: no digit may follow a leading zero, and the number must stay below 2^64.
-#[tactic(auto, unfolding(crate::specs::Words::goes_on))]
-fn goes_on(value: u64, b: u8) -> bool
-    ensures { result ≡ goes_on value b }
-{
-    if !is_digit(b) {
-        return false;
-    }
+    let digit = digit(b)?;
     if value == 0 {
-        return false;
+        return None;
     }
-    value <= (u64::MAX - digit_value(b)) / 10
-}
-
-fn longer(value: u64, b: u8) -> u64
-    requires { goes_on value b ≡ true }
-    ensures { result ≡ Words·longer value b }
-{
-    value * 10 + digit_value(b)
+    value.checked_mul(10)?.checked_add(digit)
 }

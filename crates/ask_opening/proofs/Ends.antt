@@ -13,8 +13,8 @@ use lib.Seq.{take-suc, take_all, take-append-le, length-take-le, get_or-append-a
 use Rattle.capacity.specs.Capacity.{max_slots}
 use Rattle.lists.specs.Tabled.{tabled}
 use Rattle.lists.proofs.Tabled.{tabled-length}
-use Rattle.refusal.specs.declared.Verdict.{Verdict}
-use Rattle.refusal.specs.declared.Verdict.TheVariants.{Fine, Refused}
+use Rattle.refusal.specs.Verdict.{Verdict}
+use Rattle.std.specs.Prelude.{Ok, Err}
 use Rattle.refusal.specs.Verdict.{refused, or_else}
 use Rattle.plan.specs.declared.Plan.{Plan}
 use Rattle.plan_check.specs.Check.{check_of}
@@ -93,11 +93,11 @@ module _ (given : List ℕ) (constants : ℕ) where
 module _ (ws : List ℕ) (p : Plan) (cost : ℕ) (names : List ℕ) (room : ℕ) where
   too_many : (ends : List ℕ) → max_slots < length ends → (v : Verdict) → check_of p ≡ v → opened_with ws p cost names ends room ≡ refusal (or_else v (refused 30 0))
   unfolding opened_with showing_fault text_fault names_fault ends_fault
-  too_many ends h Fine e =
+  too_many ends h (Ok tt) e =
       let few = (promises p e).few_slots in
       let other : eqb (length ends) p.slot_count ≡ false = ne_eqb (length ends) p.slot_count (λ s. omega arith) in
       simp (e, other)
-  too_many ends h (Refused r) e = simp e
+  too_many ends h (Err r) e = simp e
 
   -- so it does not matter where they are cut
   pub cut-ends : (ends : List ℕ) → opened_with ws p cost names (take (max_slots + 1) ends) room ≡ opened_with ws p cost names ends room

@@ -5,8 +5,8 @@ use mathlib.Core.List.{List, ◌++◌}
 use Prim.Native.Nat.{ℕ, ◌-◌}
 use lib.ListN.{length, length-replicate}
 use Rattle.capacity.specs.Capacity.{max_selects}
-use Rattle.refusal.specs.declared.Verdict.{Verdict}
-use Rattle.refusal.specs.declared.Verdict.TheVariants.{Fine, Refused}
+use Rattle.refusal.specs.Verdict.{Verdict}
+use Rattle.std.specs.Prelude.{Ok, Err}
 use Rattle.refusal.specs.Verdict.{unless}
 use Rattle.refusal.proofs.Fine.{or-fine}
 use Rattle.plan.specs.declared.Slot.{Slot}
@@ -24,7 +24,7 @@ use Rattle.ask_opening.specs.Opening.{cost_bytes, Said, outside, refusal, showin
 module _ (ws : List ℕ) where
   -- of what is said: rows follow only of a plan that evaluation does not refuse
   pub record Follows (s : Said) : Type 0 where
-    pub fine : s.rows ≡ true → evaluation_fault s.plan (tables_in ws) ≡ Fine
+    pub fine : s.rows ≡ true → evaluation_fault s.plan (tables_in ws) ≡ Ok tt
     pub selects : length s.plan.select ≡ max_selects
 
   refusal-follows : (v : Verdict) → Follows (refusal v)
@@ -39,8 +39,8 @@ module _ (ws : List ℕ) where
     where
       by_cases : (v : Verdict) → showing_fault ws p names ends room ≡ v
           → Follows (unless {A = Said} v refusal (record { rows = true; plan = p; text = text_of p names ends ++ cost_line cost }))
-      by_cases Fine e = record { fine = λ f. (or-fine (text_fault p names ends (room - cost_bytes)) _ e).1; selects = sized }
-      by_cases (Refused r) e = refusal-follows (Refused r)
+      by_cases (Ok tt) e = record { fine = λ f. (or-fine (text_fault p names ends (room - cost_bytes)) _ e).1; selects = sized }
+      by_cases (Err r) e = refusal-follows (Err r)
 
   pub follows : (room : ℕ) → Follows (opening_of ws room)
   unfolding opening_of opened
@@ -48,6 +48,6 @@ module _ (ws : List ℕ) where
     where
       by_cases : (t : Bool) (v : Verdict)
           → Follows (cond t (unless v refusal (opened_with ws (answer_of ws).plan (answer_of ws).cost (names_of ws) (ends_of ws (answer_of ws).plan.slot_count) room)) outside)
-      by_cases true Fine = with-follows (answer_of ws).plan _ room _ _ (answer-sized ws)
-      by_cases true (Refused r) = refusal-follows (Refused r)
+      by_cases true (Ok tt) = with-follows (answer_of ws).plan _ room _ _ (answer-sized ws)
+      by_cases true (Err r) = refusal-follows (Err r)
       by_cases false v = outside-follows

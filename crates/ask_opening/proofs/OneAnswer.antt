@@ -11,7 +11,6 @@ use Rattle.ask_opening.specs.Opening.{Said, Opens}
 pub open-one : {s : Said} {l l₁ l₂ : List ℕ} {r₁ r₂ : Opening} → Opens s l r₁ l₁ → Opens s l r₂ l₂ → (r₁ ≡ r₂) × (l₁ ≡ l₂)
 open-one {r₁ = r₁} {r₂ = r₂} v w =
     let same = written_one v.line.is_written w.line.is_written in
-    let rows = one_answer v.rows_is w.rows_is in
     let plan = one_answer v.plan_is w.plan_is in
-    let answer : ◌≡◌ {A = Opening} (record { rows = r₁.rows; plan = r₁.plan; length = r₁.length }) r₂ = rw (rows, plan, same.0) in
+    let answer : ◌≡◌ {A = Opening} (record { plan = r₁.plan; length = r₁.length }) r₂ = rw (plan, same.0) in
     (answer, same.1)

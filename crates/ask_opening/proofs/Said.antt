@@ -1,7 +1,7 @@
 -- What is said of a question, case by case.
 use mathlib.Core.Path.{◌≡◌, refl, sym, ap, subst, ◌∙◌}
 use mathlib.Core.Bool.{true, false}
-use mathlib.Core.List.{List, [], ◌++◌}
+use mathlib.Core.List.{List, ◌++◌}
 use Prim.Native.Nat.{ℕ, ◌+◌, ◌-◌, ◌≤◌, ◌<◌, ◌^◌}
 use native.Mathlib.Omega.{arith}
 use borrow.Author.Tests.{leb-true, le-ltb}
@@ -9,46 +9,36 @@ use lib.ListN.{length, take, drop, get_or, replicate, length-append, length-repl
 use lib.Seq.{sets-eq, take-append_seam}
 use lib.Dec.{leb}
 use Rattle.refusal.specs.declared.Refusal.{Refusal}
-use Rattle.refusal.specs.declared.Verdict.{Verdict}
-use Rattle.refusal.specs.declared.Verdict.TheVariants.{Fine, Refused}
+use Rattle.refusal.specs.Verdict.{Verdict, answer}
+use Rattle.std.specs.Prelude.{Result, Ok, Err, None}
 use Rattle.refusal.proofs.Fine.{or-fine}
 use Rattle.query.specs.declared.Query.{Query}
 use Rattle.plan.specs.declared.Plan.{Plan}
-use Rattle.plan.specs.Plan.{empty_plan}
 use Rattle.text_pieces.specs.Written.{largest, Written}
-use Rattle.text_pieces.proofs.Written.{written_none, written_then}
+use Rattle.text_pieces.proofs.Written.{written_then}
 use Rattle.ask_lines.specs.Lines.{refusal_line, cost_line}
 use Rattle.ask_lines.proofs.Lengths.{refusal-short, cost-short}
-use Rattle.plan_text.specs.declared.Formatted.{Formatted}
+use Rattle.plan_text.specs.Answered.{Formatted}
 use Rattle.plan_text.specs.Text.{text_of}
 use Rattle.plan_text.specs.Answer.{text_fault, formatted_of, text_after}
 use Rattle.plan_text.proofs.Answers.{text-fits}
 use Rattle.visits.specs.Visits.{tables_of}
-use Rattle.eval.specs.Evaluation.{evaluation_fault}
 use Rattle.ask_question.specs.declared.Parts.{Parts}
 use Rattle.ask_question.specs.Parts.{parts_of, items_of, are_kinds, are_bytes, inside_with}
 use Rattle.ask_question.specs.Asked.{query_with, bytes_after}
 use Rattle.ask_question.proofs.Found.{both_true}
 use Rattle.ask_question.proofs.Filled.{bytes-all}
-use Rattle.ask_plan.specs.declared.Answer.{Answer}
-use Rattle.ask_plan.specs.Answer.{answer_with, answer_of}
+use Rattle.ask_plan.specs.declared.Chosen.{Chosen}
+use Rattle.ask_plan.specs.Answer.{answer_with, answer_of, said_answer}
 use Rattle.ask_opening.specs.declared.Opening.{Opening}
 use Rattle.ask_opening.specs.Question.{name_bytes, names_of, is_question, given_ends, ends_of, tables_in}
 use Rattle.ask_opening.specs.Opening.{cost_bytes, Said, only, outside, refusal, showing_fault, opened_with, opened, opening_of, Line, Opens}
 
 -- by the parts that were found
 module _ (ws : List ℕ) (q : Parts) (found : q ≡ parts_of ws) where
-  pub no-question : inside_with ws q ≡ false → false ≡ is_question ws
-  unfolding is_question
-  no-question e = rw (← found, e)
-
-  pub question-is : (names : List ℕ) → inside_with ws q ≡ true → names ≡ items_of ws q.names → leb (length names) name_bytes ≡ is_question ws
-  unfolding is_question
-  question-is names e f = rw (← found, e, ← f)
-
   -- what is planned for the query that is read by them
-  pub answer-asked : (t : ℕ) (x : Query) (types : List ℕ) (a : Answer) → t ≡ get_or ws 0 0 → x ≡ query_with ws q → types ≡ items_of ws q.types
-      → a ≡ answer_with t x types → a ≡ answer_of ws
+  pub answer-asked : (t : ℕ) (x : Query) (types : List ℕ) (a : Result Chosen Refusal) → t ≡ get_or ws 0 0 → x ≡ query_with ws q → types ≡ items_of ws q.types
+      → a ≡ said_answer (answer_with t x types) → a ≡ said_answer (answer_of ws)
   answer-asked t x types a e f h g = rw (← found, ← h, ← f, ← e) g
 
   -- their items are the question's names, ends and tables
@@ -87,49 +77,68 @@ module _ {l l' : List ℕ} {r : Opening} where
   opens_as e o = subst (λ (u : Said). Opens u l r l') e o
 
   -- a text, and no rows
-  pub opens-only : {text : List ℕ} (n : ℕ) → ◌≡◌ {A = Opening} r (record { rows = false; plan = empty_plan; length = n }) → Line text l n l' → Opens (only text) l r l'
-  opens-only n e w = rw e (record { rows_is = refl; plan_is = refl; line = w })
+  pub opens-only : {text : List ℕ} → r.plan ≡ None → Line text l r.length l' → Opens (only text) l r l'
+  opens-only e w = record { plan_is = e; line = w }
+
+-- a call's answer says whether it is refused
+refused-so : {A : Type 0} (v : Verdict) (x : A) (r : Refusal) → answer v x ≡ Err r → v ≡ Err r
+refused-so (Ok tt) x r e = cc
+refused-so (Err q) x r e = cc
+
+answered-so : {A : Type 0} (v : Verdict) (x y : A) → answer v x ≡ Ok y → (v ≡ Ok tt) × (x ≡ y)
+answered-so (Ok tt) x y e = (refl, cc)
+answered-so (Err q) x y e = cc
+
+pub ok-value : {m n : ℕ} → ◌≡◌ {A = Result ℕ Refusal} (Ok m) (Ok n) → m ≡ n
+ok-value e = cc
 
 module _ (ws : List ℕ) (room : ℕ) where
   pub said-outside : is_question ws ≡ false → outside ≡ opening_of ws room
   unfolding opening_of
   said-outside e = rw e
 
-  module _ (question : is_question ws ≡ true) (a : Answer) (e : a ≡ answer_of ws) where
-    pub said-refused : {r : Refusal} → a.verdict ≡ Refused r → refusal a.verdict ≡ opening_of ws room
+  module _ (question : is_question ws ≡ true) where
+    pub said-refused : (r : Refusal) → Err r ≡ said_answer (answer_of ws) → refusal (Err r) ≡ opening_of ws room
     unfolding opening_of opened
-    said-refused f = rw (question, ← e, f)
+    said-refused r e = rw (question, refused-so (answer_of ws).verdict _ r (sym e))
 
-    pub said-planned : a.verdict ≡ Fine → opened_with ws a.plan a.cost (names_of ws) (ends_of ws a.plan.slot_count) room ≡ opening_of ws room
+    pub said-planned : (a : Chosen) → Ok a ≡ said_answer (answer_of ws) → opened_with ws a.plan a.cost (names_of ws) (ends_of ws a.plan.slot_count) room ≡ opening_of ws room
     unfolding opening_of opened
-    said-planned f = rw (question, ← e, f)
+    said-planned a e =
+        let f = answered-so (answer_of ws).verdict _ a (sym e) in
+        rw (question, f.0, ← f.1)
 
 module _ (ws : List ℕ) (p : Plan) (names ends : List ℕ) (room : ℕ) where
-  -- the text's refusal, or that of evaluation
-  module _ (v : Verdict) (e : v ≡ text_fault p names ends (room - cost_bytes)) where
-    pub text-first : {r : Refusal} → v ≡ Refused r → v ≡ showing_fault ws p names ends room
-    unfolding showing_fault
-    text-first f = rw (← e, f)
-
-    pub then-evaluation : v ≡ Fine → evaluation_fault p (tables_in ws) ≡ showing_fault ws p names ends room
-    unfolding showing_fault
-    then-evaluation f = rw (← e, f)
-
   module _ (cost : ℕ) (v : Verdict) (e : v ≡ showing_fault ws p names ends room) where
-    pub opened-refused : {r : Refusal} → v ≡ Refused r → refusal v ≡ opened_with ws p cost names ends room
+    pub opened-refused : {r : Refusal} → v ≡ Err r → refusal (Err r) ≡ opened_with ws p cost names ends room
     unfolding opened_with
     opened-refused f = rw (← e, f)
 
-    pub opened-fine : v ≡ Fine → ◌≡◌ {A = Said} (record { rows = true; plan = p; text = text_of p names ends ++ cost_line cost }) (opened_with ws p cost names ends room)
+    pub opened-fine : v ≡ Ok tt → ◌≡◌ {A = Said} (record { rows = true; plan = p; text = text_of p names ends ++ cost_line cost }) (opened_with ws p cost names ends room)
     unfolding opened_with
     opened-fine f = rw (← e, f)
 
-    pub text-fine : v ≡ Fine → text_fault p names ends (room - cost_bytes) ≡ Fine
+    pub text-fine : v ≡ Ok tt → text_fault p names ends (room - cost_bytes) ≡ Ok tt
     unfolding showing_fault
     text-fine f = (or-fine (text_fault p names ends (room - cost_bytes)) _ (sym e ∙ f)).0
 
+-- measuring the text gives its refusal
+module _ (p : Plan) (names ends : List ℕ) (room : ℕ) where
+  abbrev measured : Formatted
+  measured = formatted_of p names ends room
+
+  measured-fault : measured.verdict ≡ text_fault p names ends room
+  unfolding formatted_of
+  measured-fault = grind arith
+
+  pub text-refused : (r : Refusal) → answer measured.verdict measured.length ≡ Err r → Err r ≡ text_fault p names ends room
+  text-refused r e = sym (refused-so measured.verdict _ r e) ∙ measured-fault
+
+  pub text-accepted : (n : ℕ) → answer measured.verdict measured.length ≡ Ok n → Ok tt ≡ text_fault p names ends room
+  text-accepted n e = sym (answered-so measured.verdict _ n e).0 ∙ measured-fault
+
 -- a text that fits in some room fits in more
-wider : (p : Plan) (names ends : List ℕ) (room more : ℕ) → text_fault p names ends room ≡ Fine → room ≤ more → text_fault p names ends more ≡ Fine
+wider : (p : Plan) (names ends : List ℕ) (room more : ℕ) → text_fault p names ends room ≡ Ok tt → room ≤ more → text_fault p names ends more ≡ Ok tt
 unfolding text_fault
 wider p names ends room more e h =
     let f = text-fits p names ends room e in
@@ -137,7 +146,7 @@ wider p names ends room more e h =
     simp (f.0, le-ltb _ _ short)
 
 -- the plan text is written, and then the cost
-module _ (p : Plan) (cost : ℕ) (names ends l : List ℕ) (word : cost < 2 ^ 64) (held : length l ≤ largest) (fine : text_fault p names ends (length l - cost_bytes) ≡ Fine) where
+module _ (p : Plan) (cost : ℕ) (names ends l : List ℕ) (word : cost < 2 ^ 64) (held : length l ≤ largest) (fine : text_fault p names ends (length l - cost_bytes) ≡ Ok tt) where
   abbrev text : List ℕ
   text = text_of p names ends
 
@@ -149,18 +158,19 @@ module _ (p : Plan) (cost : ℕ) (names ends l : List ℕ) (word : cost < 2 ^ 64
       let start : 0 + length text ≡ length text = omega arith in
       rw f (record { position_is = omega arith; buffer_is = sym (sets-eq text l 0 (omega arith) ∙ ap (λ (k : ℕ). text ++ drop k l) start); within = (omega arith, held) })
 
-  pub opening-written : (r : Formatted) (l₁ l₂ : List ℕ) (n : ℕ) → r ≡ formatted_of p names ends (length l) → l₁ ≡ text_after p names ends l
-      → Written (cost_line cost) r.length l₁ n l₂ → Line (text ++ cost_line cost) l n l₂
-  opening-written r l₁ l₂ n e f w =
+  -- the text's length is answered
+  pub text_formatted : answer (formatted_of p names ends (length l)).verdict (formatted_of p names ends (length l)).length ≡ Ok (formatted_of p names ends (length l)).length
+  unfolding formatted_of
+  text_formatted = rw (wider p names ends (length l - cost_bytes) (length l) fine (omega arith)) refl
+
+  pub opening-written : (m : ℕ) (l₁ l₂ : List ℕ) (n : ℕ) → m ≡ (formatted_of p names ends (length l)).length → l₁ ≡ text_after p names ends l
+      → Written (cost_line cost) m l₁ n l₂ → Line (text ++ cost_line cost) l n l₂
+  opening-written m l₁ l₂ n e f w =
       let whole : Written (text ++ cost_line cost) 0 l n l₂ = written_then text-written (rw (e, f) at w) in
       let long = length-append text (cost_line cost) in
       let short : length text ≤ length l - cost_bytes = (text-fits p names ends (length l - cost_bytes) fine).1 in
       let few = cost-short cost word in
       record { is_written = whole; fits = λ h. omega (arith, whole.position_is) }
-
--- nothing is written
-pub none_written : (l : List ℕ) → length l ≤ largest → Line [] l 0 l
-none_written l h = record { is_written = written_none (omega arith) h; fits = λ k. omega arith }
 
 -- the line of numbers that are not a question
 pub outside-written : (l l' : List ℕ) (n : ℕ) → Written outside.text 0 l n l' → Line outside.text l n l'

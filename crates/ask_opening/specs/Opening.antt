@@ -1,6 +1,6 @@
 -- docs/LAYOUT.md, "What it writes": what stands before the rows, or all that is written.
-use Rattle.std.specs.Prelude.{◌≡◌, ℕ, ◌-◌, ◌≤◌, Bool, true, false, cond, List, ◌++◌, length}
-use Rattle.refusal.specs.declared.Verdict.{Verdict}
+use Rattle.std.specs.Prelude.{◌≡◌, ℕ, ◌-◌, ◌≤◌, Bool, true, false, cond, Option, Some, None, List, ◌++◌, length}
+use Rattle.refusal.specs.Verdict.{Verdict}
 use Rattle.refusal.specs.Verdict.{or_else, unless}
 use Rattle.plan.specs.declared.Plan.{Plan}
 use Rattle.plan.specs.Plan.{empty_plan}
@@ -9,7 +9,7 @@ use Rattle.ask_lines.specs.Lines.{outside_line, refusal_text, cost_line}
 use Rattle.plan_text.specs.Text.{text_of}
 use Rattle.plan_text.specs.Answer.{text_fault}
 use Rattle.eval.specs.Evaluation.{evaluation_fault}
-use Rattle.ask_plan.specs.declared.Answer.{Answer}
+use Rattle.ask_plan.specs.Answered.{Answer}
 use Rattle.ask_plan.specs.Answer.{answer_of}
 use Rattle.ask_opening.specs.declared.Opening.{Opening}
 use Rattle.ask_opening.specs.Question.{is_question, names_of, ends_of, tables_in}
@@ -62,8 +62,11 @@ pub record Line (text : List ℕ) (buffer : List ℕ) (n : ℕ) (buffer' : List 
   pub is_written : Written text 0 buffer n buffer'
   pub fits : line_bytes ≤ length buffer → n ≤ length buffer
 
+-- the plan whose rows follow, if they do
+abbrev pub plan_shown : Said → Option Plan
+plan_shown s = cond s.rows (Some s.plan) None
+
 -- it is said: the answer, and the buffer after it
 pub record Opens (s : Said) (buffer : List ℕ) (r : Opening) (buffer' : List ℕ) : Type 0 where
-  pub rows_is : r.rows ≡ s.rows
-  pub plan_is : r.plan ≡ s.plan
+  pub plan_is : r.plan ≡ plan_shown s
   pub line : Line s.text buffer r.length buffer'

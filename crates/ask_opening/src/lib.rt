@@ -3,10 +3,9 @@
 // calls are given them.
 #![tactic(auto)]
 
-ghost use Rattle.std.specs.Prelude.{◌≡◌, true, false, ◌++◌, ◌-◌, length};
-ghost use Rattle.refusal.specs.declared.Verdict.TheVariants.{Fine};
-ghost use Rattle.plan.specs.Plan.{empty_plan};
-ghost use Rattle.ask_lines.specs.Lines.{refusal_line, refusal_text, cost_line};
+ghost use Rattle.std.specs.Prelude.{◌≡◌, true, Ok, Err, ◌++◌, ◌-◌, length};
+ghost use Rattle.ask_lines.specs.Lines.{outside_line, refusal_text, cost_line};
+ghost use Rattle.text_pieces.specs.Written.{Written};
 ghost use Rattle.plan_text.specs.Text.{text_of};
 ghost use Rattle.plan_text.specs.Answer.{text_fault};
 ghost use Rattle.eval.specs.Evaluation.{evaluation_fault};
@@ -17,13 +16,14 @@ ghost use Rattle.ask_opening.specs.Opening.{refusal as Opening·refusal};
 
 use ask_question::{MAX_ENDS, Parts};
 use plan::Plan;
-use refusal::Verdict;
+use refusal::{Refusal, Verdict};
+use tables::Tables;
+use text_pieces::Pen;
 
-// Whether rows follow, and of which plan; and how many bytes are written before them.
+// The plan whose rows follow, if they do; and how many bytes are written before them.
 #[derive(Clone, Copy)]
 pub struct Opening {
-    pub rows: bool,
-    pub plan: Plan,
+    pub plan: Option<Plan>,
     pub length: usize,
 }
 
@@ -42,70 +42,40 @@ pub fn open(words: &[u64], out: &mut [u8]) -> Opening
         return say_outside(out);
     }
     let query = ask_question::read_query(words, parts);
-    let answer = ask_plan::plan_asked(
+    let planned = ask_plan::plan_asked(
         ask_question::word_at(words, ask_question::TASK),
         query,
         ask_question::items(words, parts.types),
     );
-    let verdict = answer.verdict;
-    if let Verdict::Refused(_) = verdict {
-        return say_refusal(verdict, out);
+    match planned {
+        Ok(chosen) => open_planned(words, parts, chosen.plan, chosen.cost, out),
+        Err(refusal) => say_refusal(refusal, out),
     }
-    let plan = answer.plan;
-    open_planned(words, parts, plan, answer.cost, out)
 }
 
 // Whether the numbers are in the layout, and there is room for the bytes of names.
+#[tactic(auto, unfolding(crate::specs::Question::is_question))]
 fn is_question(words: &[u64], parts: Parts) -> bool
     requires { parts ≡ parts_of words.now }
     ensures { result ≡ is_question words.now }
 {
-    if !ask_question::is_inside(words, parts) {
-        return false;
-    }
-    let names = ask_question::items(words, parts.names);
-    names.len() <= NAME_BYTES
+    ask_question::is_inside(words, parts)
+        && ask_question::items(words, parts.names).len() <= NAME_BYTES
 }
 
 // One line, and no rows.
 fn say_outside(out: &mut [u8]) -> Opening
     ensures { Opens outside out.old result out.new }
 {
-    let size = ask_lines::write_outside(0, out);
-    only(size)
+    let length = write_outside(out);
+    Opening { plan: None, length }
 }
 
-fn say_refusal(verdict: Verdict, out: &mut [u8]) -> Opening
-    ensures { Opens (Opening·refusal verdict) out.old result out.new }
+fn say_refusal(refusal: Refusal, out: &mut [u8]) -> Opening
+    ensures { Opens (Opening·refusal (Err refusal)) out.old result out.new }
 {
-    let size = write_verdict(verdict, out);
-    only(size)
-}
-
-fn only(size: usize) -> Opening
-    ensures { result ≡ record { rows = false; plan = empty_plan; length = size } }
-{
-    let plan = Plan::empty();
-    Opening {
-        rows: false,
-        plan,
-        length: size,
-    }
-}
-
-fn write_verdict(verdict: Verdict, out: &mut [u8]) -> usize
-    ensures { Line (refusal_text verdict) out.old result out.new }
-{
-    match verdict {
-        Verdict::Fine => 0,
-        Verdict::Refused(r) => write_refusal(r.number, r.place, out),
-    }
-}
-
-fn write_refusal(number: u8, place: usize, out: &mut [u8]) -> usize
-    ensures { Line (refusal_line number place) out.old result out.new }
-{
-    ask_lines::write_refusal(number, place, 0, out)
+    let length = write_refusal(refusal, out);
+    Opening { plan: None, length }
 }
 
 // What is said of a question that was planned. First its names are read.
@@ -137,23 +107,11 @@ fn open_named(
     let mut ends = [0usize; MAX_ENDS];
     let given = ask_question::items(words, parts.ends);
     ask_question::read_ends(given, &mut ends);
-    let constants = constants_of(
-        plan.slot_count,
-        ask_question::word_at(words, ask_question::VARIABLES),
-    );
+    // the slots past the variables
+    let variables = ask_question::word_at(words, ask_question::VARIABLES);
+    let constants = (plan.slot_count as u64).saturating_sub(variables) as usize;
     let count = ask_question::count_ends(given.len(), constants, MAX_ENDS);
     open_with(words, parts, plan, cost, names, &ends[..count], out)
-}
-
-// The slots past the variables are constants.
-fn constants_of(slots: usize, variables: u64) -> usize
-    ensures { result ≡ slots - variables }
-{
-    let slots = slots as u64;
-    if slots < variables {
-        return 0;
-    }
-    (slots - variables) as usize
 }
 
 // Then a refusal is written, or the plan text and the cost.
@@ -169,19 +127,20 @@ fn open_with(
     requires { parts ≡ parts_of words.now }
     ensures { Opens (opened_with words.now plan cost names.now ends.now (length out.old)) out.old result out.new }
 {
-    let verdict = showing_fault(words, parts, plan, names, ends, out);
-    if let Verdict::Refused(_) = verdict {
-        return say_refusal(verdict, out);
-    }
-    let length = write_opening(plan, cost, names, ends, out);
-    Opening {
-        rows: true,
-        plan,
-        length,
+    match showing_fault(words, parts, plan, names, ends, out) {
+        Ok(()) => {
+            let length = write_opening(plan, cost, names, ends, out);
+            Opening {
+                plan: Some(plan),
+                length,
+            }
+        }
+        Err(refusal) => say_refusal(refusal, out),
     }
 }
 
 // The text's refusal comes before that of evaluation.
+#[tactic(auto, unfolding(crate::specs::Opening::showing_fault))]
 fn showing_fault(
     words: &[u64],
     parts: Parts,
@@ -193,10 +152,7 @@ fn showing_fault(
     requires { parts ≡ parts_of words.now }
     ensures { result ≡ showing_fault words.now plan names.now ends.now (length out.now) }
 {
-    let verdict = text_fault(plan, names, ends, out);
-    if let Verdict::Refused(_) = verdict {
-        return verdict;
-    }
+    text_fault(plan, names, ends, out)?;
     evaluation_fault(words, parts, plan)
 }
 
@@ -204,36 +160,54 @@ fn showing_fault(
 fn text_fault(plan: Plan, names: &[u8], ends: &[usize], out: &[u8]) -> Verdict
     ensures { result ≡ text_fault plan names.now ends.now (length out.now - cost_bytes) }
 {
-    let room = beside_cost(out.len());
-    let measured = plan_text::measure(plan, names, ends, &out[..room]);
-    measured.verdict
-}
-
-fn beside_cost(size: usize) -> usize
-    ensures { result ≡ size - cost_bytes }
-{
-    if size < COST_BYTES {
-        return 0;
-    }
-    size - COST_BYTES
+    let room = out.len().saturating_sub(COST_BYTES);
+    plan_text::measure(plan, names, ends, &out[..room])?;
+    Ok(())
 }
 
 fn evaluation_fault(words: &[u64], parts: Parts, plan: Plan) -> Verdict
     requires { parts ≡ parts_of words.now }
     ensures { result ≡ evaluation_fault plan (tables_in words.now) }
 {
-    eval::check(
-        plan,
-        ask_question::items(words, parts.aevt),
-        ask_question::items(words, parts.avet),
-        ask_question::items(words, parts.eavt),
-    )
+    let tables = Tables {
+        aevt: ask_question::items(words, parts.aevt),
+        avet: ask_question::items(words, parts.avet),
+        eavt: ask_question::items(words, parts.eavt),
+    };
+    eval::check(plan, &tables)
 }
 
+// The text fits, as its check said.
 fn write_opening(plan: Plan, cost: u64, names: &[u8], ends: &[usize], out: &mut [u8]) -> usize
-    requires { text_fault plan names.now ends.now (length out.old - cost_bytes) ≡ Fine }
+    requires { text_fault plan names.now ends.now (length out.old - cost_bytes) ≡ Ok tt }
     ensures { Line (text_of plan names.now ends.now ++ cost_line cost) out.old result out.new }
 {
-    let formatted = plan_text::fmt(plan, names, ends, out);
-    ask_lines::write_cost(cost, formatted.length, out)
+    let length = plan_text::fmt(plan, names, ends, out).unwrap();
+    write_cost(cost, length, out)
+}
+
+// One line, to the front of a buffer or behind the text. Each makes a pen of its own: of one that the caller lends, the caller's answer could not
+// say what the buffer ends as.
+fn write_outside(out: &mut [u8]) -> usize
+    ensures { Written outside_line 0 out.old result out.new }
+{
+    let mut pen = Pen { out, at: 0 };
+    ask_lines::write_outside(&mut pen);
+    pen.at
+}
+
+fn write_refusal(refusal: Refusal, out: &mut [u8]) -> usize
+    ensures { Written (refusal_text (Err refusal)) 0 out.old result out.new }
+{
+    let mut pen = Pen { out, at: 0 };
+    ask_lines::write_refusal(refusal, &mut pen);
+    pen.at
+}
+
+fn write_cost(cost: u64, at: usize, out: &mut [u8]) -> usize
+    ensures { Written (cost_line cost) at out.old result out.new }
+{
+    let mut pen = Pen { out, at };
+    ask_lines::write_cost(cost, &mut pen);
+    pen.at
 }

@@ -6,8 +6,8 @@ use mathlib.Core.List.{List, [], ◌∷◌, map}
 use lib.ListN.{length, get_or, length-replicate}
 use lib.Dec.{ltb}
 use Rattle.capacity.specs.Capacity.{max_selects, max_searched}
-use Rattle.refusal.specs.declared.Verdict.{Verdict}
-use Rattle.refusal.specs.declared.Verdict.TheVariants.{Fine, Refused}
+use Rattle.refusal.specs.Verdict.{Verdict}
+use Rattle.std.specs.Prelude.{Ok, Err}
 use Rattle.refusal.specs.Verdict.{refuse_if, or_else, unless}
 use Rattle.lists.proofs.Padded.{padded-length}
 use Rattle.query.specs.declared.Statement.{Statement}
@@ -17,15 +17,15 @@ use Rattle.query_check.specs.Refusals.{query_fault}
 use Rattle.plan.specs.declared.Slot.{Slot}
 use Rattle.plan.specs.declared.Plan.{Plan}
 use Rattle.plan.specs.Plan.{zero_slot, empty_plan}
-use Rattle.planner.specs.declared.Planned.{Planned}
+use Rattle.planner.specs.Answered.{Planned}
 use Rattle.planner.specs.Refusals.{plan_fault}
 use Rattle.planner.specs.Planning.{slot_of, plan_for, plan_of}
-use Rattle.search.specs.declared.Found.{Found}
+use Rattle.search.specs.Answered.{Found}
 use Rattle.search.specs.Search.{Candidate, orders, candidates, not_found, first_least, search_of}
 use Rattle.cost.specs.Cost.{cost_of}
 use Rattle.ask_question.specs.Parts.{parts_of, items_of}
 use Rattle.ask_question.specs.Asked.{query_of}
-use Rattle.ask_plan.specs.declared.Answer.{Answer}
+use Rattle.ask_plan.specs.Answered.{Answer}
 use Rattle.ask_plan.specs.Answer.{refused_with, searches, planned_for, costed_for, planned_with_cost, types_asked, answer_with, answer_of}
 
 -- a plan whose array of selects has the full length
@@ -46,9 +46,9 @@ given-sized q = by_cases (plan_fault q)
   where
     by_cases : (v : Verdict)
         → Sized (unless {A = Planned} v (λ w. record { verdict = w; plan = empty_plan })
-        (record { verdict = Fine; plan = plan_for q (statements_of q) })).plan
-    by_cases Fine = made-sized q _
-    by_cases (Refused r) = empty-sized
+        (record { verdict = Ok tt; plan = plan_for q (statements_of q) })).plan
+    by_cases (Ok tt) = made-sized q _
+    by_cases (Err r) = empty-sized
 
 -- the search
 found-sized : (q : Query) → Sized (search_of q).plan
@@ -58,9 +58,9 @@ found-sized q =
     (candidates q.variable_count (statements_of q) (orders q.where_statements.count))
   where
     by_cases : (v : Verdict) (cs : List Candidate) → Sized (unless {A = Found} v not_found (first_least q cs)).plan
-    by_cases Fine [] = empty-sized
-    by_cases Fine (c ∷ cs) = made-sized q _
-    by_cases (Refused r) cs = empty-sized
+    by_cases (Ok tt) [] = empty-sized
+    by_cases (Ok tt) (c ∷ cs) = made-sized q _
+    by_cases (Err r) cs = empty-sized
 
 planned-sized : (task : ℕ) (q : Query) → Sized (planned_for task q).plan
 unfolding planned_for
@@ -71,8 +71,8 @@ planned-sized task q = by_cases (searches task)
     by_cases false = given-sized q
 
 either-sized : (v : Verdict) (a : Answer) → Sized a.plan → Sized (unless {A = Answer} v refused_with a).plan
-either-sized Fine a h = h
-either-sized (Refused r) a h = empty-sized
+either-sized (Ok tt) a h = h
+either-sized (Err r) a h = empty-sized
 
 with-cost-sized : (task : ℕ) (q : Query) → Sized (planned_with_cost task q).plan
 unfolding planned_with_cost costed_for
@@ -80,7 +80,7 @@ with-cost-sized task q =
     let planned = planned_for task q in
     let p = planned.plan in
     either-sized planned.verdict (costed_for p)
-    (either-sized (cost_of p).verdict (record { verdict = Fine; plan = p; cost = (cost_of p).cost }) (planned-sized task q))
+    (either-sized (cost_of p).verdict (record { verdict = Ok tt; plan = p; cost = (cost_of p).cost }) (planned-sized task q))
 
 pub answer-sized : (ws : List ℕ) → Sized (answer_of ws).plan
 unfolding answer_with

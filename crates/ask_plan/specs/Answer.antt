@@ -1,20 +1,24 @@
 -- docs/LAYOUT.md: what is planned for a question. The first refusal is that of the types where the task has them checked, then that of
 -- planning or the search, then that of the cost.
+use Rattle.std.specs.Prelude.{Result}
+use Rattle.refusal.specs.declared.Refusal.{Refusal}
+use Rattle.refusal.specs.Verdict.{answer}
+use Rattle.ask_plan.specs.declared.Chosen.{Chosen}
 use Rattle.std.specs.Prelude.{ℕ, Bool, cond, ◌||◌, List, get_or, eqb}
-use Rattle.refusal.specs.declared.Verdict.{Verdict}
-use Rattle.refusal.specs.declared.Verdict.TheVariants.{Fine}
+use Rattle.refusal.specs.Verdict.{Verdict}
+use Rattle.std.specs.Prelude.{Ok}
 use Rattle.refusal.specs.Verdict.{unless}
 use Rattle.plan.specs.declared.Plan.{Plan}
 use Rattle.plan.specs.Plan.{empty_plan}
 use Rattle.query.specs.declared.Query.{Query}
-use Rattle.planner.specs.declared.Planned.{Planned}
+use Rattle.planner.specs.Answered.{Planned}
 use Rattle.planner.specs.Planning.{plan_of}
 use Rattle.types.specs.Types.{inferred_of}
 use Rattle.search.specs.Search.{search_of}
 use Rattle.cost.specs.Cost.{cost_of}
 use Rattle.ask_question.specs.Parts.{checks_types, parts_of, items_of}
 use Rattle.ask_question.specs.Asked.{query_of}
-use Rattle.ask_plan.specs.declared.Answer.{Answer}
+use Rattle.ask_plan.specs.Answered.{Answer}
 
 -- refused: the empty plan, and no cost
 abbrev pub refused_with : Verdict → Answer
@@ -30,7 +34,7 @@ planned_for task q = cond (searches task) (record { verdict = (search_of q).verd
 
 -- a plan and its cost
 unfoldable pub costed_for : Plan → Answer
-costed_for p = unless (cost_of p).verdict refused_with (record { verdict = Fine; plan = p; cost = (cost_of p).cost })
+costed_for p = unless (cost_of p).verdict refused_with (record { verdict = Ok tt; plan = p; cost = (cost_of p).cost })
 
 -- the plan for a task and a query, and its cost
 unfoldable pub planned_with_cost : ℕ → Query → Answer
@@ -38,7 +42,7 @@ planned_with_cost task q = unless (planned_for task q).verdict refused_with (cos
 
 -- where the task has types checked: planning's own checks in the order given, then 50 to 52
 unfoldable pub types_asked : ℕ → Query → List ℕ → Verdict
-types_asked task q types = cond (checks_types task) (inferred_of q types).verdict Fine
+types_asked task q types = cond (checks_types task) (inferred_of q types).verdict (Ok tt)
 
 -- the plan for a task, a query and a table of types, and its cost
 unfoldable pub answer_with : ℕ → Query → List ℕ → Answer
@@ -47,3 +51,7 @@ answer_with task q types = unless (types_asked task q types) refused_with (plann
 -- the plan of a question and its cost: the task is the header's first number
 abbrev pub answer_of : List ℕ → Answer
 answer_of ws = answer_with (get_or ws 0 0) (query_of ws) (items_of ws (parts_of ws).types)
+
+-- what planning for a task answers
+abbrev pub said_answer : Answer → Result Chosen Refusal
+said_answer a = answer a.verdict (record { plan = a.plan; cost = a.cost })

@@ -1,49 +1,23 @@
 -- Laws of what is read into arrays and buffers, one element on.
-use mathlib.Core.Path.{◌≡◌, ap}
-use mathlib.Core.Bool.{true, false}
+use mathlib.Core.Path.{◌≡◌}
+use mathlib.Core.Bool.{true}
 use mathlib.Core.List.{List, ◌++◌}
-use Prim.Native.Nat.{ℕ, suc, ◌+◌, ◌-◌, ◌*◌, ◌≤◌, ◌<◌, min}
+use Prim.Native.Nat.{ℕ, suc, ◌+◌, ◌-◌, ◌≤◌, ◌<◌, min}
 use native.Mathlib.Numerals.{add-one}
 use native.Mathlib.Omega.{arith}
 use lib.ListN.{length, take, drop, set, get_or}
 use lib.Seq.{paste-suc}
-use borrow.Author.Tests.{lt-leb, le-leb, lt-ltb, le-ltb, eq-eqb, ne_eqb}
+use borrow.Author.Tests.{le-leb, lt-ltb, le-ltb, eq-eqb, ne_eqb}
 use Rattle.capacity.specs.Capacity.{max_statements, max_selects}
 use Rattle.lists.specs.Padded.{padded}
 use Rattle.lists.specs.Tabled.{tabled}
 use Rattle.query.specs.declared.Var.{Var}
-use Rattle.query.specs.declared.QueryValue.{QueryValue}
-use Rattle.query.specs.declared.QueryValue.TheVariants.{Const, Var as Variable}
 use Rattle.query.specs.declared.Statement.{Statement}
 use Rattle.query.specs.declared.Statements.{Statements}
 use Rattle.query.specs.declared.Selects.{Selects}
-use Rattle.query.specs.declared.Query.{Query}
-use Rattle.query.specs.Query.{largest, zero_var, zero_statement}
-use Rattle.ask_question.specs.declared.Parts.{Parts}
-use Rattle.ask_question.specs.Parts.{items_of, are_bytes}
-use Rattle.ask_question.specs.Asked.{asked_var, asked_value, asked_statement, asked_statements, asked_selects, query_with, bytes_fit, bytes_after, end_of}
-
-pub var-past : (n : ℕ) → largest < n → record { 0 = largest } ≡ asked_var n
-unfolding asked_var
-var-past n h = let e : largest ≡ min n largest = omega arith in ap (λ (k : ℕ). record { 0 = k }) e
-
-pub var-below : (n : ℕ) → n ≤ largest → record { 0 = n } ≡ asked_var n
-unfolding asked_var
-var-below n h = let e : n ≡ min n largest = omega arith in ap (λ (k : ℕ). record { 0 = k }) e
-
-pub value-variable : (k v : ℕ) (x : Var) → k ≡ 0 → x ≡ asked_var v → Variable x ≡ asked_value k v
-unfolding asked_value
-value-variable k v x h e = rw (eq-eqb k 0 h, e)
-
-pub value-constant : (k v : ℕ) → (k ≡ 0 → ⊥) → Const v ≡ asked_value k v
-unfolding asked_value
-value-constant k v h = rw (ne_eqb k 0 h)
-
-pub statement-is : (ws : List ℕ) (i e a k v : ℕ) (x : Var) (y : QueryValue) → e ≡ get_or ws (i * 4) 0 → a ≡ get_or ws (i * 4 + 1) 0
-    → k ≡ get_or ws (i * 4 + 2) 0 → v ≡ get_or ws (i * 4 + 3) 0 → x ≡ asked_var e → y ≡ asked_value k v
-    → ◌≡◌ {A = Statement} (record { entity = x; attribute = record { 0 = a }; value = y }) (asked_statement ws i)
-unfolding asked_statement
-statement-is ws i e a k v x y he ha hk hv hx hy = rw (hx, hy, he, ha, hk, hv)
+use Rattle.query.specs.Query.{zero_var, zero_statement}
+use Rattle.ask_question.specs.Parts.{are_bytes}
+use Rattle.ask_question.specs.Asked.{asked_var, asked_statement, asked_statements, asked_selects, bytes_fit, bytes_after, end_of}
 
 pub statements-are : (ws : List ℕ) (n i : ℕ) (items : List Statement) → items ≡ padded zero_statement max_statements (tabled (asked_statement ws) i)
     → i ≡ min n max_statements → ◌≡◌ {A = Statements} (record { items = items; count = n }) (asked_statements ws n)
@@ -55,26 +29,11 @@ pub selects_are : (ws : List ℕ) (n i : ℕ) (items : List Var) → items ≡ p
 unfolding asked_selects
 selects_are ws n i items e h = rw (e, h)
 
-pub query-is : (ws : List ℕ) (p : Parts) (v : ℕ) (s : Statements) (t : Selects) → v ≡ get_or ws 1 0
-    → s ≡ asked_statements (items_of ws p.statements) p.statements.count → t ≡ asked_selects (items_of ws p.selects) p.selects.count
-    → ◌≡◌ {A = Query} (record { variable_count = v; where_statements = s; select = t }) (query_with ws p)
-unfolding query_with
-query-is ws p v s t hv hs ht = rw (hs, ht, hv)
-
 -- bytes of names
-module _ (ws buffer : List ℕ) where
-  pub bytes-long : length buffer < length ws → (false ≡ bytes_fit ws (length buffer)) × (buffer ≡ bytes_after ws buffer)
+module _ (ws buffer : List ℕ) (room : length ws ≤ length buffer) where
+  pub bytes-all : are_bytes ws ≡ true → (true ≡ bytes_fit ws (length buffer)) × (ws ++ drop (length ws) buffer ≡ bytes_after ws buffer)
   unfolding bytes_fit bytes_after
-  bytes-long h = (rw (lt-leb (length ws) (length buffer) h), rw (lt-leb (length ws) (length buffer) h))
-
-  module _ (room : length ws ≤ length buffer) where
-    pub bytes-other : are_bytes ws ≡ false → (false ≡ bytes_fit ws (length buffer)) × (buffer ≡ bytes_after ws buffer)
-    unfolding bytes_fit bytes_after
-    bytes-other h = (rw (le-leb (length ws) (length buffer) room, h), rw (le-leb (length ws) (length buffer) room, h))
-
-    pub bytes-all : are_bytes ws ≡ true → (true ≡ bytes_fit ws (length buffer)) × (ws ++ drop (length ws) buffer ≡ bytes_after ws buffer)
-    unfolding bytes_fit bytes_after
-    bytes-all h = (rw (le-leb (length ws) (length buffer) room, h), rw (le-leb (length ws) (length buffer) room, h))
+  bytes-all h = (rw (le-leb (length ws) (length buffer) room, h), rw (le-leb (length ws) (length buffer) room, h))
 
 -- ends of names
 module _ (ws : List ℕ) (i : ℕ) where

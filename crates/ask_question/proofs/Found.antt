@@ -1,18 +1,18 @@
 -- Laws of the parts: when one is there, and when the whole input is in the layout.
-use mathlib.Core.Path.{◌≡◌, refl, sym, ◌∙◌}
+use mathlib.Core.Path.{◌≡◌, refl, sym}
 use mathlib.Core.Bool.{Bool, true, false, ◌&&◌, false≢true}
 use mathlib.Core.List.{List, [], ◌∷◌}
 use Prim.Native.Nat.{ℕ, zero, suc, ◌+◌, ◌-◌, ◌*◌, ◌/◌, ◌≤◌, ◌<◌}
 use native.Mathlib.Nat.{le-div_iff_mul-le, div-lt_iff_lt-mul}
 use native.Mathlib.Numerals.{add-one}
 use native.Mathlib.Omega.{arith}
-use lib.ListN.{length, take, drop, get_or, length-drop, drop_of_length-le}
-use lib.Seq.{drop-cons, take-nil, take_all}
+use lib.ListN.{length, drop, get_or, length-drop}
+use lib.Seq.{drop-cons}
 use lib.Dec.{leb}
 use borrow.Author.Tests.{leb-true, lt-leb, le-leb, lt-ltb, le-ltb}
-use Rattle.ask_question.specs.declared.Part.{Part}
+use Rattle.std.specs.Prelude.{IsTrue, EachIndex, slice_index, ◌↔◌}
 use Rattle.ask_question.specs.declared.Parts.{Parts}
-use Rattle.ask_question.specs.Parts.{no_part, part_from, part_at, checks_types, left_out, types_at, parts_of, items_of, are_kinds, are_bytes, inside_with}
+use Rattle.ask_question.specs.Parts.{no_part, part_from, part_at, items_of, are_kinds, are_bytes, inside_with}
 
 module _ (ws : List ℕ) (at width : ℕ) where
   pub part-past : length ws ≤ at → no_part (length ws) ≡ part_at ws at width
@@ -30,51 +30,6 @@ module _ (ws : List ℕ) (at width : ℕ) where
     pub part-there : get_or ws at 0 ≤ (length ws - (at + 1)) / width → part_from at (get_or ws at 0) width ≡ part_at ws at width
     unfolding part_at
     part-there s = rw (lt-ltb at (length ws) h, le-leb (get_or ws at 0 * width) (length ws - (at + 1)) (part-fits s))
-
--- the table of types is there only where the task has types checked
-module _ (ws : List ℕ) (at task : ℕ) (e : task ≡ get_or ws 0 0) where
-  pub types-left-out : checks_types task ≡ false → left_out at ≡ types_at ws at
-  unfolding types_at
-  types-left-out h = rw (← e, h)
-
-  pub types-there : checks_types task ≡ true → part_at ws at 1 ≡ types_at ws at
-  unfolding types_at
-  types-there h = rw (← e, h)
-
--- each part is found where the one before it ends
-pub parts_are : (ws : List ℕ) (s t n e y a b c : Part) → s ≡ part_at ws 4 4 → t ≡ part_at ws s.next 1 → n ≡ part_at ws t.next 1
-    → e ≡ part_at ws n.next 1 → y ≡ types_at ws e.next → a ≡ part_at ws y.next 1 → b ≡ part_at ws a.next 1 → c ≡ part_at ws b.next 1
-    → ◌≡◌ {A = Parts} (record { statements = s; selects = t; names = n; ends = e; types = y; aevt = a; avet = b; eavt = c }) (parts_of ws)
-unfolding parts_of
-parts_are ws s t n e y a b c p q r u d v w x = rw (x, w, v, d, u, r, q, p)
-
--- words from a place on
-module _ (ws : List ℕ) (at count : ℕ) where
-  pub items-past : length ws ≤ at → take 0 ws ≡ take count (drop at ws)
-  items-past h = rw (drop_of_length-le ws h, take-nil)
-
-  pub items-rest : length ws - at ≤ count → take (length ws - at) (drop at ws) ≡ take count (drop at ws)
-  items-rest h =
-      let l : length (drop at ws) ≡ length ws - at = length-drop at ws in
-      take_all (length ws - at) (drop at ws) (omega arith) ∙ sym (take_all count (drop at ws) (omega arith))
-
-  pub items-some : take (at + count - at) (drop at ws) ≡ take count (drop at ws)
-  items-some = let e : at + count - at ≡ count = omega arith in rw e
-
--- bytes, one on
-module _ (ws : List ℕ) (i : ℕ) where
-  pub bytes-end : length ws ≤ i → true ≡ are_bytes (drop i ws)
-  unfolding are_bytes
-  bytes-end h = rw (drop_of_length-le ws h)
-
-  module _ (h : i < length ws) where
-    pub bytes-no : 255 < get_or ws i 0 → are_bytes (drop i ws) ≡ false
-    unfolding are_bytes
-    bytes-no b = rw (drop-cons ws i 0 h, lt-leb (get_or ws i 0) 255 b)
-
-    pub bytes_on : get_or ws i 0 ≤ 255 → are_bytes (drop i ws) ≡ are_bytes (drop (i + 1) ws)
-    unfolding are_bytes
-    bytes_on b = rw (drop-cons ws i 0 h, le-leb (get_or ws i 0) 255 b, add-one)
 
 pub both_true : (p q : Bool) → p && q ≡ true → (p ≡ true) × (q ≡ true)
 both_true true q h = (refl, h)
@@ -143,3 +98,23 @@ module _ (ws : List ℕ) (p : Parts) where
         pub inside-bytes : are_kinds (items_of ws p.statements) ≡ true → are_bytes (items_of ws p.names) ≡ inside_with ws p
         unfolding inside_with
         inside-bytes h = rw (parts, le-leb (length ws) p.eavt.next whole, le-leb (get_or ws 0 0) 3 task, h)
+
+-- bytes where a test of each says so
+bytes-every : (ws : List ℕ) → are_bytes ws ≡ true ↔ EachIndex ws (λ k. slice_index ws k ≤ 255)
+unfolding are_bytes
+bytes-every [] = (λ e i h. absurd (omega (arith, h)), λ e. refl)
+bytes-every (w ∷ ws) = let rest = bytes-every ws in (forth, back rest.1)
+  where
+    forth : leb w 255 && are_bytes ws ≡ true → EachIndex (w ∷ ws) (λ k. slice_index (w ∷ ws) k ≤ 255)
+    forth e i h = byte_at (w ∷ ws) i e h
+
+    back : (EachIndex ws (λ k. slice_index ws k ≤ 255) → are_bytes ws ≡ true) → EachIndex (w ∷ ws) (λ k. slice_index (w ∷ ws) k ≤ 255) → leb w 255 && are_bytes ws ≡ true
+    back rest f = rw (le-leb w 255 (f 0 (omega arith)), rest (λ i h. f (suc i) (omega (arith, h))))
+
+same-true : (p q : Bool) → p ≡ true ↔ q ≡ true → p ≡ q
+same-true true q h = sym (h.0 refl)
+same-true false true h = h.1 refl
+same-true false false h = refl
+
+pub bytes-are : (ws : List ℕ) (r : Bool) → IsTrue r ↔ EachIndex ws (λ k. slice_index ws k ≤ 255) → r ≡ are_bytes ws
+bytes-are ws r h = let e = bytes-every ws in same-true r (are_bytes ws) (λ t. e.1 (h.0 t), λ t. h.1 (e.0 t))

@@ -13,7 +13,7 @@ use datom::Aid;
 use query::{Query, QueryValue, Selects, Statement, Statements, Var, ZERO_STATEMENT};
 
 // A part of the input: where its items begin, how many they are, how many words they take, and where the next part begins. One that
-// is not there has no items, and nothing comes after it.
+// is not there has no items, and nothing comes after it. It stays a part, not a None: its items are read before `is_inside` is asked.
 #[derive(Clone, Copy)]
 pub struct Part {
     pub inside: bool,
@@ -48,6 +48,7 @@ pub const MOST: usize = 3;
 const HEADER: usize = 4;
 
 // What to do: plan the statements in the order given, or search; or the same once the types of the variables are checked.
+// Numbers of the input's layout: a task past the last has its meaning too, so none is turned into an enum that would refuse it.
 pub const PLAN: u64 = 0;
 
 pub const SEARCH: u64 = 1;
@@ -57,6 +58,7 @@ pub const TYPED_PLAN: u64 = 2;
 pub const TYPED_SEARCH: u64 = 3;
 
 // The numbers of a statement: entity, attribute, kind and value; the kind is 0 for a variable and 1 for a constant.
+// Numbers of the input's layout: a kind past the last is read as a constant.
 const STATEMENT: usize = 4;
 
 const VARIABLE: u64 = 0;
@@ -74,23 +76,15 @@ pub const MAX_ENDS: usize = MAX_SLOTS + 1;
 pub fn is_inside(words: &[u64], parts: Parts) -> bool
     ensures { result ≡ inside_with words.now parts }
 {
-    let last = parts.eavt;
-    if !last.inside {
-        return false;
-    }
-    if last.next < words.len() {
-        return false;
-    }
-    if TYPED_SEARCH < word_at(words, TASK) {
-        return false;
-    }
-    if !are_kinds(items(words, parts.statements)) {
-        return false;
-    }
-    are_bytes(items(words, parts.names))
+    parts.eavt.inside
+        && words.len() <= parts.eavt.next
+        && word_at(words, TASK) <= TYPED_SEARCH
+        && are_kinds(items(words, parts.statements))
+        && are_bytes(items(words, parts.names))
 }
 
 // The parts of an input.
+#[tactic(auto, unfolding(crate::specs::Parts::parts_of))]
 pub fn find_parts(words: &[u64]) -> Parts
     ensures { result ≡ parts_of words.now }
 {
@@ -141,16 +135,19 @@ fn part_at(words: &[u64], at: usize, width: usize) -> Part
 
 // The table of types, whose count stands at a place; where the task does not have types checked, a part that is left out, so that the next
 // one begins at that place.
+#[tactic(auto, unfolding(crate::specs::Parts::types_at))]
 fn types_at(words: &[u64], at: usize) -> Part
     ensures { result ≡ types_at words.now at }
 {
-    if !checks_types(word_at(words, TASK)) {
-        return left_out(at);
+    if checks_types(word_at(words, TASK)) {
+        part_at(words, at, 1)
+    } else {
+        left_out(at)
     }
-    part_at(words, at, 1)
 }
 
 // Whether a task has the types of the variables checked.
+#[tactic(auto, unfolding(crate::specs::Parts::checks_types))]
 pub fn checks_types(task: u64) -> bool
     ensures { result ≡ checks_types task }
 {
@@ -185,38 +182,26 @@ fn no_part(size: usize) -> Part
 pub fn items(words: &[u64], part: Part) -> &[u64]
     ensures { result.now ≡ items_of words.now part }
 {
-    let size = words.len();
-    let at = part.at;
-    if size <= at {
-        return &words[..0];
-    }
-    if size - at < part.length {
-        return &words[at..];
-    }
-    let end = at + part.length;
-    &words[at..end]
+    let rest = &words[part.at.min(words.len())..];
+    &rest[..part.length.min(rest.len())]
 }
 
 // The word at a place; 0 where there is none.
 pub fn word_at(words: &[u64], at: usize) -> u64
     ensures { result ≡ get_or words.now at 0 }
 {
-    if words.len() <= at {
-        return 0;
-    }
-    words[at]
+    words.get(at).copied().unwrap_or(0)
 }
 
 // Whether the third word of each statement is a kind.
 fn are_kinds(words: &[u64]) -> bool
     ensures { result ≡ are_kinds words.now }
 {
-    let mut i = 0;
-    while STATEMENT <= words.len() - i {
-        if CONSTANT < words[i + 2] {
+    // by number: with `chunks_exact(STATEMENT)` and `all` the proof did not close
+    for i in 0..words.len() / STATEMENT {
+        if CONSTANT < words[i * STATEMENT + 2] {
             return false;
         }
-        i += STATEMENT;
     }
     true
 }
@@ -224,76 +209,61 @@ fn are_kinds(words: &[u64]) -> bool
 fn are_bytes(words: &[u64]) -> bool
     ensures { result ≡ are_bytes words.now }
 {
-    let mut i = 0;
-    while i < words.len() {
-        if LAST_BYTE < words[i] {
-            return false;
-        }
-        i += 1;
-    }
-    true
+    words.iter().all(|word| *word <= LAST_BYTE)
 }
 
 // The query that an input of these parts asks.
+#[tactic(auto, unfolding(crate::specs::Asked::query_with))]
 pub fn read_query(words: &[u64], parts: Parts) -> Query
     ensures { result ≡ query_with words.now parts }
 {
-    let where_statements = read_statements(items(words, parts.statements), parts.statements.count);
-    let select = read_selects(items(words, parts.selects), parts.selects.count);
     Query {
         variable_count: word_at(words, VARIABLES),
-        where_statements,
-        select,
+        where_statements: read_statements(items(words, parts.statements), parts.statements.count),
+        select: read_selects(items(words, parts.selects), parts.selects.count),
     }
 }
 
-// The statements: as many as fit, zeros past them, and the count of all.
+// The statements: as many as fit, zeros past them, and the count of all. Apart from `read_selects`, as a function for both would take the
+// zero, the length and the reading of one as parameters, and be no shorter.
 fn read_statements(words: &[u64], count: usize) -> Statements
     ensures { result ≡ asked_statements words.now count }
 {
     let mut items = [ZERO_STATEMENT; MAX_STATEMENTS];
-    let mut i = 0;
-    while i < MAX_STATEMENTS {
-        if count <= i {
-            return Statements { items, count };
-        }
+    for i in 0..count.min(MAX_STATEMENTS) {
         items[i] = statement_at(words, i);
-        i += 1;
     }
     Statements { items, count }
 }
 
+#[tactic(auto, unfolding(crate::specs::Asked::asked_statement))]
 fn statement_at(words: &[u64], i: usize) -> Statement
     requires { i < max_statements }
     ensures { result ≡ asked_statement words.now i }
 {
     let at = i * STATEMENT;
-    let entity = variable(word_at(words, at));
-    let attribute = Aid(word_at(words, at + 1));
-    let value = value_of(word_at(words, at + 2), word_at(words, at + 3));
     Statement {
-        entity,
-        attribute,
-        value,
+        entity: variable(word_at(words, at)),
+        attribute: Aid(word_at(words, at + 1)),
+        value: value_of(word_at(words, at + 2), word_at(words, at + 3)),
     }
 }
 
+#[tactic(auto, unfolding(crate::specs::Asked::asked_value))]
 fn value_of(kind: u64, value: u64) -> QueryValue
     ensures { result ≡ asked_value kind value }
 {
-    if kind == VARIABLE {
-        return QueryValue::Var(variable(value));
+    match kind {
+        VARIABLE => QueryValue::Var(variable(value)),
+        _ => QueryValue::Const(value),
     }
-    QueryValue::Const(value)
 }
 
+#[tactic(auto, unfolding(crate::specs::Asked::asked_var))]
 fn variable(number: u64) -> Var
     ensures { result ≡ asked_var number }
 {
-    if (u16::MAX as u64) < number {
-        return Var(u16::MAX);
-    }
-    Var(number as u16)
+    Var(number.min(u16::MAX as u64) as u16)
 }
 
 // The variables to select, in the same way.
@@ -301,41 +271,33 @@ fn read_selects(words: &[u64], count: usize) -> Selects
     ensures { result ≡ asked_selects words.now count }
 {
     let mut items = [Var(0); MAX_SELECTS];
-    let mut i = 0;
-    while i < MAX_SELECTS {
-        if count <= i {
-            return Selects { items, count };
-        }
+    for i in 0..count.min(MAX_SELECTS) {
         items[i] = variable(word_at(words, i));
-        i += 1;
     }
     Selects { items, count }
 }
 
 // The bytes of names, to the front of a buffer. Where there is no room for them, or a number is larger than a byte, nothing is written.
+#[tactic(auto, unfolding(crate::specs::Asked::bytes_fit, crate::specs::Asked::bytes_after))]
 pub fn read_bytes(words: &[u64], bytes: &mut [u8]) -> bool
     ensures value { result ≡ bytes_fit words.now (length bytes.old) }
     ensures bytes_after { bytes.new ≡ bytes_after words.now bytes.old }
 {
-    if bytes.len() < words.len() {
-        return false;
-    }
-    if !are_bytes(words) {
+    if bytes.len() < words.len() || !are_bytes(words) {
         return false;
     }
     copy_bytes(words, bytes);
     true
 }
 
+// By hand, as the library has no copy of words to bytes.
 fn copy_bytes(words: &[u64], bytes: &mut [u8])
     requires words_in_bounds { length words.now ≤ length bytes.old }
     requires words_value { are_bytes words.now ≡ true }
     ensures { bytes.new ≡ words.now ++ drop (length words.now) bytes.old }
 {
-    let mut i = 0;
-    while i < words.len() {
-        bytes[i] = (words[i] % 256) as u8;
-        i += 1;
+    for (i, word) in words.iter().enumerate() {
+        bytes[i] = *word as u8;
     }
 }
 
@@ -343,35 +305,22 @@ fn copy_bytes(words: &[u64], bytes: &mut [u8])
 pub fn read_ends(words: &[u64], ends: &mut [usize])
     ensures { ends.new ≡ ends_after words.now (length ends.old) }
 {
-    let mut i = 0;
-    while i < ends.len() {
-        ends[i] = end_at(words, i);
-        i += 1;
+    for (i, end) in ends.iter_mut().enumerate() {
+        *end = end_at(words, i);
     }
 }
 
+#[tactic(auto, unfolding(crate::specs::Asked::end_of))]
 fn end_at(words: &[u64], i: usize) -> usize
     ensures { result ≡ end_of words.now i }
 {
-    let given = words.len();
-    if i < given {
-        return words[i] as usize;
-    }
-    if given == 0 {
-        return 0;
-    }
-    words[given - 1] as usize
+    words.get(i).or(words.last()).copied().unwrap_or(0) as usize
 }
 
 // How many ends there are, those given and one for each constant, as far as there is room for them.
+#[tactic(auto, unfolding(crate::specs::Asked::ends_count))]
 pub fn count_ends(given: usize, constants: usize, room: usize) -> usize
     ensures { result ≡ ends_count given constants room }
 {
-    if room < given {
-        return room;
-    }
-    if room - given < constants {
-        return room;
-    }
-    given + constants
+    given.saturating_add(constants).min(room)
 }

@@ -11,8 +11,8 @@ use lib.Seq.{length-take-le, drop-append-le, take_at}
 use lib.Dec.{ltb}
 use Rattle.capacity.specs.Capacity.{max_selects}
 use Rattle.refusal.specs.declared.Refusal.{Refusal}
-use Rattle.refusal.specs.declared.Verdict.{Verdict}
-use Rattle.refusal.specs.declared.Verdict.TheVariants.{Fine, Refused}
+use Rattle.refusal.specs.Verdict.{Verdict}
+use Rattle.std.specs.Prelude.{Ok, Err}
 use Rattle.refusal.proofs.Fine.{or-fine}
 use Rattle.plan.specs.declared.Plan.{Plan}
 use Rattle.plan.specs.Plan.{scans_of, slots_selected}
@@ -22,13 +22,13 @@ use Rattle.plan_check.proofs.Promises.{promises}
 use Rattle.tables.specs.Rows.{flat}
 use Rattle.visits.specs.Visits.{Tables, initial_slots, slots_at, selected, visits, row_list}
 use Rattle.visits.specs.Window.{window, follows, filled}
-use Rattle.eval.specs.declared.Evaluated.{Evaluated}
-use Rattle.eval.specs.Evaluation.{evaluation_fault, evaluate_of, buffer_after}
-use Rattle.ask_rows.specs.Windows.{shown_of, more_of, rows_after, Fills}
+use Rattle.eval.specs.Answered.{Evaluated}
+use Rattle.eval.specs.Evaluation.{evaluation_fault, evaluate_of, buffer_after, said_rows}
+use Rattle.ask_rows.specs.Windows.{shown_of, more_of, rows_after, Fills, evaluated_of}
 use Rattle.ask_rows.proofs.Wide.{Wide, wide-take, wide-drop, wide-map, flat_long}
 
 -- a plan that is not refused has passed the check
-pub passed : (p : Plan) (ts : Tables) → evaluation_fault p ts ≡ Fine → Promised p
+pub passed : (p : Plan) (ts : Tables) → evaluation_fault p ts ≡ Ok tt → Promised p
 unfolding evaluation_fault
 passed p ts e = promises p (or-fine (check_of p) _ e).0
 
@@ -36,7 +36,7 @@ module _ (p : Plan) (ts : Tables) (selects : length p.select ≡ max_selects) wh
   abbrev width : ℕ
   width = p.select_count
 
-  module _ (fine : evaluation_fault p ts ≡ Fine) where
+  module _ (fine : evaluation_fault p ts ≡ Ok tt) where
     pub selects-long : length (slots_selected p) ≡ width
     selects-long = let few = (passed p ts fine).few_selects in length-take-le width p.select (omega arith)
 
@@ -51,16 +51,10 @@ room_within left width size =
     let a : min left (size / width) * width ≤ size / width * width = mul-le-mul_right width (min-le_right left (size / width)) in
     omega (arith, div-mul-le_self size width)
 
--- the words of a window: of no rows, of all that are to be shown, or of as many as fit
-module _ (left width size : ℕ) where
-  pub room-none : width ≡ 0 → 0 ≡ min left (size / width) * width
-  room-none e = rw e (omega arith)
-
-  pub room-least : left < size / width → left * width ≡ min left (size / width) * width
-  room-least h = let e : left ≡ min left (size / width) = omega arith in ap (λ (k : ℕ). k * width) e
-
-  pub room-all : size / width ≤ left → size / width * width ≡ min left (size / width) * width
-  room-all h = let e : size / width ≡ min left (size / width) = omega arith in ap (λ (k : ℕ). k * width) e
+-- evaluation's answer, as a record
+pub evaluated : (p : Plan) (ts : Tables) (k room : ℕ) → evaluated_of (said_rows (evaluate_of p ts k room)) ≡ evaluate_of p ts k room
+unfolding evaluate_of
+evaluated p ts k room = grind arith
 
 -- another follows the first k of a list where there are more than k
 shorter : {A : Type 0} (k : ℕ) (l : List A) → ltb k (length l) ≡ ltb (length (take k l)) (length l)
@@ -90,11 +84,11 @@ module _ (p : Plan) (ts : Tables) (selects : length p.select ≡ max_selects) (f
   Answered n = (r : Evaluated) (part : List ℕ) → r ≡ evaluate_of p ts from (length (take n rows)) → part ≡ buffer_after p ts from (take n rows)
       → Fills p ts from left rows r (part ++ drop n rows)
 
-  module _ {s : Refusal} (refused : evaluation_fault p ts ≡ Refused s) where
+  module _ {s : Refusal} (refused : evaluation_fault p ts ≡ Err s) where
     refused-fills : Answered room
     unfolding evaluate_of buffer_after rows_after
     refused-fills r part f g =
-        let verdict : r.verdict ≡ Refused s = rw (f, refused) refl in
+        let verdict : r.verdict ≡ Err s = rw (f, refused) refl in
         let count : r.count ≡ 0 = rw (f, refused) refl in
         let words : r.count * p.select_count ≡ 0 = rw count (omega arith) in
         let same : part ≡ take room rows = rw (g, refused) refl in
@@ -107,7 +101,7 @@ module _ (p : Plan) (ts : Tables) (selects : length p.select ≡ max_selects) (f
           front_in = λ fine. let z : ◌≡◌ {A = ℕ} 0 1 = cc in absurd (omega arith);
         }
 
-  module _ (fine : evaluation_fault p ts ≡ Fine) where
+  module _ (fine : evaluation_fault p ts ≡ Ok tt) where
     abbrev wide : length (slots_selected p) ≡ p.select_count
     wide = selects-long p ts selects fine
 
@@ -143,7 +137,7 @@ module _ (p : Plan) (ts : Tables) (selects : length p.select ≡ max_selects) (f
     fine-fills : Answered room
     unfolding evaluate_of buffer_after rows_after
     fine-fills r part f g =
-        let verdict : r.verdict ≡ Fine = rw (f, fine) refl in
+        let verdict : r.verdict ≡ Ok tt = rw (f, fine) refl in
         let count : r.count ≡ length shown = rw (f, fine, same-window) refl in
         let more : r.more ≡ more_of p ts from left (length rows) = rw (f, fine) same_more in
         let long : length (flat shown) ≡ length shown * p.select_count = flat_long shown-wide in
@@ -166,5 +160,5 @@ module _ (p : Plan) (ts : Tables) (selects : length p.select ≡ max_selects) (f
   fills n e = rw e (by_cases (evaluation_fault p ts) refl)
     where
       by_cases : (v : Verdict) → evaluation_fault p ts ≡ v → Answered room
-      by_cases Fine e = fine-fills e
-      by_cases (Refused s) e = refused-fills e
+      by_cases (Ok tt) e = fine-fills e
+      by_cases (Err s) e = refused-fills e

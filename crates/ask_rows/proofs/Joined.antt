@@ -11,7 +11,7 @@ use lib.ListN.{length, take, drop, length-take, length-drop}
 use lib.Seq.{take_all, take-add, drop-drop}
 use lib.Dec.{ltb, eqb}
 use Rattle.capacity.specs.Capacity.{max_selects}
-use Rattle.refusal.specs.declared.Verdict.TheVariants.{Fine}
+use Rattle.std.specs.Prelude.{Ok}
 use Rattle.plan.specs.declared.Plan.{Plan}
 use Rattle.text_pieces.specs.Written.{largest}
 use Rattle.visits.specs.Visits.{Tables, row_list}
@@ -52,7 +52,7 @@ all-are-shown n from left fit some numbered count e last =
     let number = le-ltb (largest - from) count (omega arith) in
     absurd (false≢true (rw (more, left_over, shown, number) at last))) (eq-or-lt_of_le few)
 
-module _ (p : Plan) (ts : Tables) (selects : length p.select ≡ max_selects) (fine : evaluation_fault p ts ≡ Fine) (from left room : ℕ) (fits : p.select_count ≤ room) where
+module _ (p : Plan) (ts : Tables) (selects : length p.select ≡ max_selects) (fine : evaluation_fault p ts ≡ Ok tt) (from left room : ℕ) (fits : p.select_count ≤ room) where
   abbrev width : ℕ
   width = p.select_count
 

@@ -7,8 +7,8 @@ use native.Mathlib.Omega.{arith}
 use lib.ListN.{length, take}
 use lib.Seq.{sets}
 use Rattle.refusal.specs.declared.Refusal.{Refusal}
-use Rattle.refusal.specs.declared.Verdict.{Verdict}
-use Rattle.refusal.specs.declared.Verdict.TheVariants.{Fine, Refused}
+use Rattle.refusal.specs.Verdict.{Verdict}
+use Rattle.std.specs.Prelude.{Ok, Err}
 use Rattle.refusal.specs.Verdict.{unless}
 use Rattle.plan.specs.declared.Plan.{Plan}
 use Rattle.text_pieces.specs.Written.{Written}
@@ -16,7 +16,7 @@ use Rattle.text_pieces.proofs.Written.{written_then}
 use Rattle.ask_lines.specs.Lines.{row_lines, word_bytes}
 use Rattle.visits.specs.Visits.{Tables}
 use Rattle.visits.specs.Window.{filled}
-use Rattle.eval.specs.declared.Evaluated.{Evaluated}
+use Rattle.eval.specs.Answered.{Evaluated}
 use Rattle.eval.specs.Evaluation.{evaluation_fault}
 use Rattle.ask_rows.specs.declared.Step.{Step}
 use Rattle.ask_rows.proofs.Stepped.{step_falls}
@@ -31,15 +31,15 @@ end_short false more = omega arith
 
 module _ {p : Plan} {ts : Tables} {from left : ℕ} {rows rows' : List ℕ} {r : Evaluated} (f : Fills p ts from left rows r rows') where
   -- evaluation is refused
-  pub refused-shows : {s : Refusal} {out : List ℕ} → r.verdict ≡ Refused s
+  pub refused-shows : {s : Refusal} {out : List ℕ} → r.verdict ≡ Err s
       → ShowsWindow p ts from left rows out (refused_window r.verdict) rows' out
   unfolding window_of out_after
   refused-shows e =
-      let fault : evaluation_fault p ts ≡ Refused _ = sym f.verdict_is ∙ e in
+      let fault : evaluation_fault p ts ≡ Err _ = sym f.verdict_is ∙ e in
       record { answer_is = rw (fault, e) refl; rows_are = f.rows_then; out_is = rw fault refl; fits = λ h. omega arith }
 
-  module _ (verdict : r.verdict ≡ Fine) where
-    fine : evaluation_fault p ts ≡ Fine
+  module _ (verdict : r.verdict ≡ Ok tt) where
+    fine : evaluation_fault p ts ≡ Ok tt
     fine = sym f.verdict_is ∙ verdict
 
     front : Front p ts from left rows r rows'
@@ -54,7 +54,7 @@ module _ {p : Plan} {ts : Tables} {from left : ℕ} {rows rows' : List ℕ} {r :
       unfolding window_text lines_of
       text = rw (front.words_are, stepped, front.more_is)
 
-      pub shows : ShowsWindow p ts from left rows out (record { verdict = Fine; length = n; last = s.last; from = s.from; left = s.left }) rows' out₂
+      pub shows : ShowsWindow p ts from left rows out (record { verdict = Ok tt; length = n; last = s.last; from = s.from; left = s.left }) rows' out₂
       unfolding window_of out_after
       shows =
           let written : Written (window_text p ts from left (length rows)) 0 out n out₂ = rw text at (written_then w v) in
@@ -67,7 +67,7 @@ module _ {p : Plan} {ts : Tables} {from left : ℕ} {rows rows' : List ℕ} {r :
 
 -- the answer where evaluation is not refused, and the buffers after it
 module _ (p : Plan) (ts : Tables) where
-  module _ (fine : evaluation_fault p ts ≡ Fine) (from left : ℕ) where
+  module _ (fine : evaluation_fault p ts ≡ Ok tt) (from left : ℕ) where
     pub fine-window : (room : ℕ) → window_of p ts from left room ≡ shown_window p ts from left room
     unfolding window_of
     fine-window room = rw fine
@@ -87,5 +87,5 @@ module _ (p : Plan) (ts : Tables) where
     where
       by_cases : (v : Verdict) → (unless v refused_window (shown_window p ts from left room)).last ≡ false
           → (unless v refused_window (shown_window p ts from left room)).left < left
-      by_cases (Refused s) e = absurd (false≢true (sym e))
-      by_cases Fine e = step_falls (more_of p ts from left room) (length (shown_of p ts from left room)) from left (window_step p ts from left room) refl e
+      by_cases (Err s) e = absurd (false≢true (sym e))
+      by_cases (Ok tt) e = step_falls (more_of p ts from left room) (length (shown_of p ts from left room)) from left (window_step p ts from left room) refl e

@@ -3,8 +3,8 @@ use mathlib.Core.Path.{◌≡◌, refl, sym, ap, ◌∙◌}
 use mathlib.Core.Bool.{Bool, true, false, not, ◌||◌, false≢true}
 use Prim.Native.Nat.{ℕ, ◌+◌, ◌-◌, ◌^◌, ◌≤◌, ◌<◌}
 use native.Mathlib.Omega.{arith}
-use borrow.Author.Tests.{not-false, le-leb, lt-leb, eq-eqb, ne_eqb, leb-false, eqb-false, ltb-false}
-use lib.Dec.{leb, ltb, eqb}
+use borrow.Author.Tests.{not-false, leb-false, eqb-false, ltb-false}
+use lib.Dec.{leb, eqb}
 use Rattle.text_pieces.specs.Written.{largest}
 use Rattle.ask_rows.specs.declared.Step.{Step}
 use Rattle.ask_rows.specs.Windows.{is_last, step_of}
@@ -21,24 +21,6 @@ pub record Goes (more : Bool) (count from left : ℕ) : Type 0 where
   pub has_number : count ≤ largest - from
 
 module _ (more : Bool) (count from left : ℕ) where
-  pub none-follows : more ≡ false → true ≡ is_last more count from left
-  unfolding is_last
-  none-follows e = rw e
-
-  module _ (goes : more ≡ true) where
-    pub all_shown : left ≤ count → true ≡ is_last more count from left
-    unfolding is_last
-    all_shown h = rw (goes, le-leb left count h)
-
-    module _ (less : count < left) where
-      pub no-row-fits : count ≡ 0 → true ≡ is_last more count from left
-      unfolding is_last
-      no-row-fits e = rw (goes, lt-leb left count less, eq-eqb count 0 e)
-
-      pub by_number : (count ≡ 0 → ⊥) → ltb (largest - from) count ≡ is_last more count from left
-      unfolding is_last
-      by_number e = rw (goes, lt-leb left count less, ne_eqb count 0 e)
-
   pub goes : is_last more count from left ≡ false → Goes more count from left
   unfolding is_last
   goes e =

@@ -6,7 +6,7 @@ use Prim.Native.Nat.{ℕ, zero, suc, ◌-◌, ◌^◌, ◌≤◌, ◌<◌}
 use native.Mathlib.Omega.{arith}
 use lib.ListN.{length}
 use Rattle.capacity.specs.Capacity.{max_selects}
-use Rattle.refusal.specs.declared.Verdict.TheVariants.{Fine}
+use Rattle.std.specs.Prelude.{Ok}
 use Rattle.plan.specs.declared.Plan.{Plan}
 use Rattle.visits.specs.Visits.{Tables}
 use Rattle.eval.specs.Evaluation.{evaluation_fault}
@@ -15,7 +15,7 @@ use Rattle.ask_rows.specs.Windows.{rows_text, shown_of, more_of, is_last, window
 use Rattle.ask_rows.proofs.Stepped.{step-last, step-on}
 use Rattle.ask_rows.proofs.Joined.{further, joined, still-numbered}
 
-module _ (p : Plan) (ts : Tables) (selects : length p.select ≡ max_selects) (fine : evaluation_fault p ts ≡ Fine) (room : ℕ) (fits : p.select_count ≤ room) where
+module _ (p : Plan) (ts : Tables) (selects : length p.select ≡ max_selects) (fine : evaluation_fault p ts ≡ Ok tt) (room : ℕ) (fits : p.select_count ≤ room) where
   pub whole : (n from left : ℕ) → left < n → left ≤ 2 ^ 64 - from → windows_text n p ts from left room ≡ rows_text p ts from left
   unfolding windows_text
   whole zero from left few numbered = absurd (omega arith)

@@ -1,8 +1,12 @@
 -- docs/LAYOUT.md, "What it writes": the rows, window by window, and whether more follow.
+use Rattle.std.specs.Prelude.{Result, Err}
+use Rattle.refusal.specs.declared.Refusal.{Refusal}
+use Rattle.eval.specs.declared.rows.Shown.{Shown}
+use Rattle.ask_rows.specs.declared.Window.{Window as Said}
 use Rattle.std.specs.Prelude.{◌≡◌, ℕ, zero, suc, ◌+◌, ◌-◌, ◌*◌, ◌/◌, ◌≤◌, min, Bool, true, false, cond, not, ◌||◌, List, [], ◌++◌, length, take, drop, leb, ltb, eqb}
 use Rattle.std.proofs.lemmas.List.Edits.{sets}
-use Rattle.refusal.specs.declared.Verdict.{Verdict}
-use Rattle.refusal.specs.declared.Verdict.TheVariants.{Fine}
+use Rattle.refusal.specs.Verdict.{Verdict}
+use Rattle.std.specs.Prelude.{Ok}
 use Rattle.refusal.specs.Verdict.{unless}
 use Rattle.plan.specs.declared.Plan.{Plan}
 use Rattle.text_pieces.specs.Ascii.{ascii}
@@ -11,10 +15,10 @@ use Rattle.ask_lines.specs.Lines.{row_lines, word_bytes}
 use Rattle.tables.specs.Rows.{flat}
 use Rattle.visits.specs.Visits.{Tables, row_list}
 use Rattle.visits.specs.Window.{filled}
-use Rattle.eval.specs.declared.Evaluated.{Evaluated}
+use Rattle.eval.specs.Answered.{Evaluated}
 use Rattle.eval.specs.Evaluation.{evaluation_fault}
 use Rattle.ask_rows.specs.declared.Step.{Step}
-use Rattle.ask_rows.specs.declared.Window.{Window}
+use Rattle.ask_rows.specs.Answered.{Window}
 
 -- the lines of rows of `width` words
 unfoldable pub lines_of : ℕ → List (List ℕ) → List ℕ
@@ -78,7 +82,7 @@ refused_window v = record { verdict = v; length = 0; last = true; from = 0; left
 abbrev pub shown_window : Plan → Tables → ℕ → ℕ → ℕ → Window
 shown_window p ts from left room =
     record {
-      verdict = Fine;
+      verdict = Ok tt;
       length = after 0 (length (window_text p ts from left room));
       last = (window_step p ts from left room).last;
       from = (window_step p ts from left room).from;
@@ -109,7 +113,7 @@ pub record Fills (p : Plan) (ts : Tables) (from left : ℕ) (rows : List ℕ) (r
   pub rows_then : rows' ≡ rows_after p ts from left rows
   pub rows_long : length rows' ≡ length rows
   pub words_fit : r.count * p.select_count ≤ length rows
-  pub front_in : evaluation_fault p ts ≡ Fine → Front p ts from left rows r rows'
+  pub front_in : evaluation_fault p ts ≡ Ok tt → Front p ts from left rows r rows'
 
 -- a window is shown: the answer, and the two buffers after it. Its text fits where the buffer for bytes has room for as many words, each as long
 -- as can be, as the buffer for rows has, and for the last line
@@ -118,3 +122,12 @@ pub record ShowsWindow (p : Plan) (ts : Tables) (from left : ℕ) (rows out : Li
   pub rows_are : rows' ≡ rows_after p ts from left rows
   pub out_is : out' ≡ out_after p ts from left (length rows) out
   pub fits : word_bytes * length rows + last_bytes ≤ length out → r.length ≤ length out
+
+-- what evaluation and a window answer, as records
+abbrev pub evaluated_of : Result Shown Refusal → Evaluated
+evaluated_of (Ok s) = record { verdict = Ok tt; count = s.count; more = s.more }
+evaluated_of (Err r) = record { verdict = Err r; count = 0; more = false }
+
+abbrev pub said_window : Result Said Refusal → Window
+said_window (Ok w) = record { verdict = Ok tt; length = w.length; last = w.last; from = w.from; left = w.left }
+said_window (Err r) = refused_window (Err r)

@@ -14,10 +14,9 @@ pub fn write_bits(value: u64, width: usize, at: usize, out: &mut [u8])
         return;
     }
     let i = at / 8;
+    let count = at % 8;
     if i < out.len() {
-        let count = at % 8;
-        let held = front(out[i], count);
-        write_behind(held, count, value, width, i, out);
+        write_behind(front(out[i], count), count, value, width, i, out);
     }
 }
 
@@ -37,8 +36,7 @@ fn write_behind(
     let mut held = first;
     let mut count = first_count;
     let mut left = width;
-    let mut i = start;
-    while i < out.len() {
+    for i in start..out.len() {
         let room = 8 - count;
         if left < room {
             write_last(held, count, value, left, i, out);
@@ -46,7 +44,6 @@ fn write_behind(
         }
         left -= room;
         out[i] = behind(held, above(value, left), room) as u8;
-        i += 1;
         held = 0;
         count = 0;
     }
@@ -68,7 +65,7 @@ fn front(byte: u8, count: usize) -> u64
     requires { count < 8 }
     ensures { (result < 2 ^ count) × (bits count result ≡ take count (bits 8 byte)) }
 {
-    (byte as u64) >> (8 - count)
+    u64::from(byte) >> (8 - count)
 }
 
 // The last `n` bits of a number, behind the bits of another.

@@ -1,3 +1,3 @@
-pub mod Penalty
+pub mod Used
 pub mod Weight
 pub mod OneAnswer

@@ -1,7 +1,7 @@
 -- 01, "Cost": a penalty and a number of steps for each scan; from the last scan to the first, cost = penalty + steps × cost.
 use Rattle.std.specs.Prelude.{ℕ, ◌+◌, ◌*◌, ◌^◌, List, [], ◌∷◌, ◌++◌, Bool, true, false, ◌&&◌, ◌||◌, take, leb, eqb}
-use Rattle.refusal.specs.declared.Verdict.{Verdict}
-use Rattle.refusal.specs.declared.Verdict.TheVariants.{Fine}
+use Rattle.refusal.specs.Verdict.{Verdict}
+use Rattle.std.specs.Prelude.{Ok}
 use Rattle.refusal.specs.Verdict.{refuse_if, or_else, unless}
 use Rattle.plan.specs.declared.Scan.{Scan}
 use Rattle.plan.specs.declared.Plan.{Plan}
@@ -10,7 +10,7 @@ use Rattle.plan.specs.declared.Index.TheVariants.{Aevt, Avet, Eavt}
 use Rattle.plan.specs.declared.Flow.{Flow}
 use Rattle.plan.specs.declared.Flow.TheVariants.{OutOut, InOut, InIn}
 use Rattle.plan.specs.Plan.{same_index, scans_of, scan_flows_fault, flows_fault}
-use Rattle.cost.specs.declared.Costed.{Costed}
+use Rattle.cost.specs.Answered.{Costed}
 
 -- eavt goes by the entity slot, aevt and avet by the attribute
 abbrev pub same_by : Index → Scan → Scan → Bool
@@ -61,12 +61,12 @@ weight before (s ∷ ss) = penalty_of before s + iters_of s.flow s.index * weigh
 
 -- 27: cost over 2^64 - 1, at the scan at which, working from the last, it first passes
 unfoldable pub weight_fault : List Scan → List Scan → ℕ → Verdict
-weight_fault before [] i = Fine
+weight_fault before [] i = Ok tt
 weight_fault before (s ∷ ss) i = or_else (weight_fault (before ++ (s ∷ [])) ss (i + 1)) (refuse_if (leb (2 ^ 64) (weight before (s ∷ ss))) 27 i)
 
 -- a verdict and a number: 0 where it is refused
 abbrev pub costed : Verdict → ℕ → Costed
-costed v n = unless v (λ r. record { verdict = r; cost = 0 }) (record { verdict = Fine; cost = n })
+costed v n = unless v (λ r. record { verdict = r; cost = 0 }) (record { verdict = Ok tt; cost = n })
 
 -- the cost of an array of scans of which the first k count: 20, then 21 at the lowest such scan, then 27
 unfoldable pub cost_of_scans : List Scan → ℕ → Costed

@@ -9,180 +9,112 @@
 // scans, and a plan whose cost would pass 2^64 - 1, or that uses eavt for out-out, is refused with a number.
 #![tactic(auto)]
 
-ghost use Rattle.std.specs.Prelude.{◌≡◌, ◌||◌};
-ghost use Rattle.plan.specs.Plan.{same_index};
-ghost use Rattle.cost.specs.Cost.{same_key, penalty_for, iters_of, cost_of_scans, cost_of};
-ghost use Rattle.cost.specs.Seen.{seen_with};
+ghost use Rattle.std.specs.Prelude.{◌≡◌, []};
+ghost use Rattle.refusal.specs.Verdict.{answer};
+ghost use Rattle.cost.specs.Cost.{same_key, key_used, index_used, penalty_of, iters_of, weight, weight_fault, cost_of_scans, cost_of};
 
 use capacity::MAX_SCANS;
 use plan::{Flow, Index, Plan, Scan};
-use refusal::{Verdict, refuse};
-
-// The answer of `cost`: 0 where it is refused.
-#[derive(Clone, Copy)]
-pub struct Costed {
-    pub verdict: Verdict,
-    pub cost: u64,
-}
+use refusal::{Refusal, Rule, refuse};
 
 // A rather ad-hoc cost estimate. Should be replaced with something better.
-pub fn cost(plan: Plan) -> Costed
-    ensures { result ≡ cost_of plan }
+#[tactic(auto, unfolding(crate::specs::Cost::cost_of, crate::specs::Cost::cost_of_scans), using(plan::proofs::Counts::flows))]
+pub fn cost(plan: Plan) -> Result<u64, Refusal>
+    ensures { result ≡ answer (cost_of plan).verdict (cost_of plan).cost }
 {
-    let scan_count = plan.scan_count;
-    let verdict = plan::check_counts(scan_count, plan.slot_count, plan.select_count);
-    if let Verdict::Refused(_) = verdict {
-        return Costed { verdict, cost: 0 };
-    }
-    let scans = plan.scans;
-    cost_of_scans(scans, scan_count)
+    plan::check_counts(plan.scan_count, plan.slot_count, plan.select_count)?;
+    cost_of_scans(plan.scans, plan.scan_count)
 }
 
-// The cost of the scans that count, without a plan. From the last scan to the first, cost = penalty + steps × cost, beginning with 1.
-pub fn cost_of_scans(scans: [Scan; MAX_SCANS], scan_count: usize) -> Costed
-    ensures { result ≡ cost_of_scans scans scan_count }
+// The cost of the scans that count, without a plan: not a slice, since a count past the array is refused.
+#[tactic(auto, unfolding(crate::specs::Cost::cost_of_scans, plan::specs::Plan::scan_flows_fault))]
+pub fn cost_of_scans(scans: [Scan; MAX_SCANS], scan_count: usize) -> Result<u64, Refusal>
+    ensures { result ≡ answer (cost_of_scans scans scan_count).verdict (cost_of_scans scans scan_count).cost }
 {
-    // What `plan::check_scan_flows` says, without a copy of the scans for it.
     if MAX_SCANS < scan_count {
-        let verdict = refuse(refusal::PLAN_COUNTS, 0);
-        return Costed { verdict, cost: 0 };
+        return refuse(Rule::PlanCounts, 0);
     }
-    let mut checked = 0;
-    while checked < scan_count {
-        let scan = scans[checked];
-        if plan::is_out_out_eavt(scan) {
-            let verdict = refuse(refusal::OUT_OUT_EAVT, checked);
-            return Costed { verdict, cost: 0 };
-        }
-        checked += 1;
-    }
+    let counted = &scans[..scan_count];
+    plan::check_flows_of(counted)?;
+    cost_of_counted(counted)
+}
+
+// From the last scan to the first, cost = penalty + steps × cost, beginning with 1.
+fn cost_of_counted(scans: &[Scan]) -> Result<u64, Refusal>
+    ensures { result ≡ answer (weight_fault [] scans.now 0) (weight [] scans.now) }
+{
     let mut cost: u64 = 1;
-    let mut left = scan_count;
-    while 0 < left {
-        let i_scan = left - 1;
-        let scan = scans[i_scan];
-        let mut seen = Seen {
-            is_key: false,
-            is_index: false,
-        };
-        let mut i = 0;
-        while i < i_scan {
-            let earlier = scans[i];
-            let more = with_earlier(seen, scan, earlier);
-            seen = more;
-            i += 1;
-        }
-        let flow = scan.flow;
-        let index = scan.index;
-        let penalty = locality_penalty(index, seen.is_key, seen.is_index);
-        let steps = iters(flow, index);
-        let room = (u64::MAX - penalty) / steps;
-        if room < cost {
-            let verdict = refuse(refusal::COST_TOO_LARGE, i_scan);
-            return Costed { verdict, cost: 0 };
+    let mut left = scans;
+    // Not a `for` over `rev()`: a scan is weighed by those before it, which `split_last` gives too.
+    while let Some((scan, earlier)) = left.split_last() {
+        let penalty = locality_penalty(scan, earlier);
+        let steps = iters(scan.flow, scan.index);
+        if (u64::MAX - penalty) / steps < cost {
+            return refuse(Rule::CostTooLarge, earlier.len());
         }
         cost = penalty + steps * cost;
-        left = i_scan;
+        left = earlier;
     }
-    Costed {
-        verdict: Verdict::Fine,
-        cost,
-    }
-}
-
-// What earlier scans used of a scan's index: the same part of it, and any.
-#[derive(Clone, Copy)]
-struct Seen {
-    is_key: bool,
-    is_index: bool,
-}
-
-// The same, with one more.
-fn with_earlier(seen: Seen, scan: Scan, earlier: Scan) -> Seen
-    ensures { result ≡ seen_with seen scan earlier }
-{
-    let index = scan.index;
-    let used = earlier.index;
-    let is_key = either(seen.is_key, same_key(scan, earlier));
-    let is_index = either(seen.is_index, same_index(index, used));
-    Seen { is_key, is_index }
-}
-
-fn either(a: bool, b: bool) -> bool
-    ensures { result ≡ (a || b) }
-{
-    if a {
-        return true;
-    }
-    b
+    Ok(cost)
 }
 
 // For every scan, estimate a locality penalty. If the scan is over an index that we've used before (in an earlier scan), then at least
 // the root of the tree will still be cached, so the scan is cheaper than when this is the first time we use that index. Furthermore, if
 // we use the same part of the index (e.g. an eavt scan for the same entity that an earlier scan used), then locality is even better, so
 // we reduce the penalty further.
-fn locality_penalty(index: Index, is_key_used: bool, is_index_used: bool) -> u64
-    ensures { result ≡ penalty_for index is_key_used is_index_used }
+fn locality_penalty(scan: &Scan, earlier: &[Scan]) -> u64
+    ensures { result ≡ penalty_of earlier.now scan.now }
 {
-    match index {
-        Index::Eavt => {
-            if is_key_used {
-                1
-            } else {
-                if is_index_used { 90 } else { 100 }
-            }
-        }
-        Index::Aevt => {
-            if is_key_used {
-                5
-            } else {
-                if is_index_used { 10 } else { 20 }
-            }
-        }
-        Index::Avet => {
-            if is_key_used {
-                10
-            } else {
-                if is_index_used { 50 } else { 60 }
-            }
-        }
+    match (
+        scan.index,
+        is_key_used(scan, earlier),
+        is_index_used(scan.index, earlier),
+    ) {
+        (Index::Eavt, true, _) => 1,
+        (Index::Eavt, false, true) => 90,
+        (Index::Eavt, false, false) => 100,
+        (Index::Aevt, true, _) => 5,
+        (Index::Aevt, false, true) => 10,
+        (Index::Aevt, false, false) => 20,
+        (Index::Avet, true, _) => 10,
+        (Index::Avet, false, true) => 50,
+        (Index::Avet, false, false) => 60,
     }
+}
+
+// Whether an earlier scan used the same part of the scan's index.
+fn is_key_used(scan: &Scan, earlier: &[Scan]) -> bool
+    ensures { result ≡ key_used scan.now earlier.now }
+{
+    earlier.iter().any(|used| same_key(scan, used))
+}
+
+// Whether an earlier scan used the index at all.
+fn is_index_used(index: Index, earlier: &[Scan]) -> bool
+    ensures { result ≡ index_used index earlier.now }
+{
+    earlier.iter().any(|used| index == used.index)
 }
 
 // How many steps a scan is taken to make.
 fn iters(flow: Flow, index: Index) -> u64
     ensures { result ≡ iters_of flow index }
 {
-    match flow {
-        Flow::OutOut => 100,
-        Flow::InIn => 1,
-        Flow::InOut => match index {
-            Index::Aevt => 1,
-            Index::Avet => 20,
-            Index::Eavt => 1,
-        },
+    match (flow, index) {
+        (Flow::OutOut, _) => 100,
+        (Flow::InOut, Index::Avet) => 20,
+        (Flow::InOut, _) => 1,
+        (Flow::InIn, _) => 1,
     }
 }
 
 // Whether an earlier scan uses the same part of the same index: eavt goes by the entity slot, the others by the attribute.
-fn same_key(scan: Scan, earlier: Scan) -> bool
-    ensures { result ≡ same_key scan earlier }
+fn same_key(scan: &Scan, used: &Scan) -> bool
+    ensures { result ≡ same_key scan.now used.now }
 {
-    let index = scan.index;
-    let used = earlier.index;
-    if same_index(index, used) {
-        match index {
-            Index::Aevt => scan.attribute.0 == earlier.attribute.0,
-            Index::Avet => scan.attribute.0 == earlier.attribute.0,
-            Index::Eavt => scan.entity.0 == earlier.entity.0,
+    scan.index == used.index
+        && match scan.index {
+            Index::Aevt | Index::Avet => scan.attribute.0 == used.attribute.0,
+            Index::Eavt => scan.entity.0 == used.entity.0,
         }
-    } else {
-        false
-    }
-}
-
-fn same_index(index: Index, used: Index) -> bool
-    ensures { result ≡ same_index index used }
-{
-    plan::index_code(index) == plan::index_code(used)
 }

@@ -1,6 +1,6 @@
 -- The answers of evaluation: the first refusal of the chain, or the window of the rows.
 use mathlib.Core.Path.{◌≡◌, refl, sym, ◌∙◌}
-use mathlib.Core.Bool.{Bool, true, false, false≢true}
+use mathlib.Core.Bool.{true, false≢true}
 use mathlib.Core.List.{List}
 use Prim.Native.Nat.{ℕ, ◌≤◌}
 use native.Mathlib.Omega.{arith}
@@ -10,8 +10,8 @@ use lib.Seq.{length-take-le}
 use lib.Dec.{eqb}
 use Rattle.capacity.specs.Capacity.{max_scans, max_selects}
 use Rattle.refusal.specs.declared.Refusal.{Refusal}
-use Rattle.refusal.specs.declared.Verdict.{Verdict}
-use Rattle.refusal.specs.declared.Verdict.TheVariants.{Fine, Refused}
+use Rattle.refusal.specs.Verdict.{Verdict}
+use Rattle.std.specs.Prelude.{Ok, Err}
 use Rattle.refusal.specs.Verdict.{refused, or_else}
 use Rattle.refusal.proofs.Fine.{refuse-fine, or-fine}
 use Rattle.tables.specs.Rows.{rows_of, ascending}
@@ -23,20 +23,19 @@ use Rattle.plan_check.specs.Check.{check_of}
 use Rattle.plan_check.proofs.Promises.{promises, scans-there}
 use Rattle.visits.specs.Visits.{Tables, tables_of}
 use Rattle.eval.specs.Steps.{Ascend}
-use Rattle.eval.specs.declared.Evaluated.{Evaluated}
-use Rattle.eval.specs.Evaluation.{Evaluable, ShowsRows, evaluation_fault, evaluate_of, buffer_after}
+use Rattle.eval.specs.Evaluation.{Evaluable, evaluation_fault}
 
 module _ (p : Plan) (ts : Tables) where
   -- the chain, link by link
-  pub plan-refused : (r : Refusal) → check_of p ≡ Refused r → evaluation_fault p ts ≡ Refused r
+  pub plan-refused : (r : Refusal) → check_of p ≡ Err r → evaluation_fault p ts ≡ Err r
   unfolding evaluation_fault
   plan-refused r e = rw e refl
 
-  pub no-scans : check_of p ≡ Fine → p.scan_count ≡ 0 → evaluation_fault p ts ≡ refused 28 0
+  pub no-scans : check_of p ≡ Ok tt → p.scan_count ≡ 0 → evaluation_fault p ts ≡ refused 28 0
   unfolding evaluation_fault
   no-scans e z = simp (e, eq-eqb p.scan_count 0 z)
 
-  pub tables-answer : check_of p ≡ Fine → (p.scan_count ≡ 0 → ⊥) → evaluation_fault p ts ≡ tables_fault ts.aevt ts.avet ts.eavt
+  pub tables-answer : check_of p ≡ Ok tt → (p.scan_count ≡ 0 → ⊥) → evaluation_fault p ts ≡ tables_fault ts.aevt ts.avet ts.eavt
   unfolding evaluation_fault
   tables-answer e z = simp (e, ne_eqb p.scan_count 0 z)
 
@@ -45,24 +44,11 @@ module _ (p : Plan) (ts : Tables) where
   no-28 fits = go (check_of p) refl
     where
       go : (v : Verdict) → check_of p ≡ v → evaluation_fault p ts ≡ or_else (check_of p) (tables_fault ts.aevt ts.avet ts.eavt)
-      go Fine e = tables-answer e (λ z. omega (arith, scans-there p fits e)) ∙ sym (rw e refl)
-      go (Refused r) e = plan-refused r e ∙ sym (rw e refl)
-
-  module _ (k : ℕ) (buffer : List ℕ) where
-    -- a refusal, and the buffer stays
-    pub refused-answer : (v : Verdict) (r : Refusal) → v ≡ Refused r → evaluation_fault p ts ≡ Refused r
-        → (◌≡◌ {A = Evaluated} (record { verdict = v; count = 0; more = false }) (evaluate_of p ts k (length buffer))) × (buffer ≡ buffer_after p ts k buffer)
-    unfolding evaluate_of buffer_after
-    refused-answer v r q e = (rw (q, e) refl, rw e refl)
-
-    -- no refusal, and the rows are shown
-    pub shown-answer : (count : ℕ) (more : Bool) (buffer' : List ℕ) → evaluation_fault p ts ≡ Fine → ShowsRows p ts k buffer count more buffer'
-        → (◌≡◌ {A = Evaluated} (record { verdict = Fine; count = count; more = more }) (evaluate_of p ts k (length buffer))) × (buffer' ≡ buffer_after p ts k buffer)
-    unfolding evaluate_of buffer_after
-    shown-answer count more buffer' e s = (rw (e, s.count_is, s.more_is) refl, rw e s.buffer_is)
+      go (Ok tt) e = tables-answer e (λ z. omega (arith, scans-there p fits e)) ∙ sym (rw e refl)
+      go (Err r) e = plan-refused r e ∙ sym (rw e refl)
 
 -- what has passed the checks can be evaluated
-evaluable : (p : Plan) (aevt avet eavt : List ℕ) → check_of p ≡ Fine → (p.scan_count ≡ 0 → ⊥) → tables_fault aevt avet eavt ≡ Fine
+evaluable : (p : Plan) (aevt avet eavt : List ℕ) → check_of p ≡ Ok tt → (p.scan_count ≡ 0 → ⊥) → tables_fault aevt avet eavt ≡ Ok tt
     → length p.scans ≡ max_scans → length p.select ≡ max_selects → Evaluable p (tables_of aevt avet eavt)
 evaluable p aevt avet eavt e z f scans select =
     let q = promises p e in
@@ -79,7 +65,7 @@ evaluable p aevt avet eavt e z f scans select =
     by_index a b c Avet = b
     by_index a b c Eavt = c
 
-pub fine-evaluable : (p : Plan) (aevt avet eavt : List ℕ) → evaluation_fault p (tables_of aevt avet eavt) ≡ Fine → length p.scans ≡ max_scans
+pub fine-evaluable : (p : Plan) (aevt avet eavt : List ℕ) → evaluation_fault p (tables_of aevt avet eavt) ≡ Ok tt → length p.scans ≡ max_scans
     → length p.select ≡ max_selects → Evaluable p (tables_of aevt avet eavt)
 unfolding evaluation_fault
 fine-evaluable p aevt avet eavt e scans select =

@@ -4,7 +4,7 @@ use mathlib.Core.Bool.{true}
 use mathlib.Core.List.{List, [], ◌∷◌, ◌++◌, map, append-nil}
 use Prim.Native.Nat.{ℕ, zero, suc, ◌+◌, ◌*◌, ◌-◌, ◌/◌, ◌<◌, ◌≤◌}
 use native.Mathlib.Omega.{arith}
-use native.Mathlib.Nat.{mul-le-mul_right, div-mul-le_self, div-le_self}
+use native.Mathlib.Nat.{div-le_self}
 use lib.ListN.{length, get_or, take, drop, length-append, length-drop, length-map}
 use lib.Seq.{drop-drop, drop-append-add, take-add, take_at}
 use Rattle.tables.specs.Rows.{flat}
@@ -78,13 +78,6 @@ module _ {ts : Tables} {ss : List Scan} {initial selects : List ℕ} {ws : List 
 
   abbrev row : List ℕ → List ℕ
   row w = selected_by selects (slots_at ts ss initial w)
-
-  -- there is room for a row, and the count does not run over
-  pub fill-room : c < room → c * width + width ≤ length o
-  fill-room l =
-      let a : (c + 1) * width ≤ room * width = mul-le-mul_right width (omega arith) in
-      let b : room * width ≤ length o = rw u.room_is (div-mul-le_self (length o) width) in
-      omega arith
 
   pub fill-count : c < room → c + 1 ≤ length o
   fill-count l = let b : room ≤ length o = rw u.room_is (div-le_self (length o) width) in omega arith

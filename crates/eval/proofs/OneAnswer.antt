@@ -3,16 +3,18 @@ use mathlib.Core.Path.{◌≡◌}
 use mathlib.Core.List.{List}
 use Prim.Native.Nat.{ℕ}
 use lib.ListN.{length}
-use Rattle.refusal.specs.declared.Verdict.{Verdict}
+use Rattle.refusal.specs.Verdict.{Verdict}
 use Rattle.refusal.proofs.OneAnswer.{one_answer}
 use Rattle.plan.specs.declared.Plan.{Plan}
 use Rattle.visits.specs.Visits.{Tables}
-use Rattle.eval.specs.declared.Evaluated.{Evaluated}
-use Rattle.eval.specs.Evaluation.{evaluation_fault, evaluate_of, buffer_after}
+use Rattle.eval.specs.Evaluation.{said_rows, evaluation_fault, evaluate_of, buffer_after}
+use Rattle.std.specs.Prelude.{Result}
+use Rattle.refusal.specs.declared.Refusal.{Refusal}
+use Rattle.eval.specs.declared.rows.Shown.{Shown}
 
 -- `evaluate`
-pub evaluate-one : (p : Plan) (ts : Tables) (k : ℕ) (buffer : List ℕ) (r r' : Evaluated) (b b' : List ℕ) → r ≡ evaluate_of p ts k (length buffer)
-    → r' ≡ evaluate_of p ts k (length buffer) → b ≡ buffer_after p ts k buffer → b' ≡ buffer_after p ts k buffer → (r ≡ r') × (b ≡ b')
+pub evaluate-one : (p : Plan) (ts : Tables) (k : ℕ) (buffer : List ℕ) (r r' : Result Shown Refusal) (b b' : List ℕ) → r ≡ said_rows (evaluate_of p ts k (length buffer))
+    → r' ≡ said_rows (evaluate_of p ts k (length buffer)) → b ≡ buffer_after p ts k buffer → b' ≡ buffer_after p ts k buffer → (r ≡ r') × (b ≡ b')
 evaluate-one p ts k buffer r r' b b' e f g h = (one_answer e f, one_answer g h)
 
 -- `check`

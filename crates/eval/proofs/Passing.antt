@@ -1,6 +1,6 @@
 -- The turns of `skip`'s loop: what remains is what remained at first, without the visits that were passed over.
 use mathlib.Core.Path.{◌≡◌, refl, sym, ap, ◌∙◌}
-use mathlib.Core.Bool.{true, false, false≢true}
+use mathlib.Core.Bool.{true, false}
 use mathlib.Core.List.{List, [], ◌∷◌}
 use Prim.Native.Nat.{ℕ, ◌+◌, ◌-◌, ◌<◌, ◌≤◌}
 use native.Mathlib.Omega.{arith}
@@ -60,9 +60,3 @@ module _ {ts : Tables} {ss : List Scan} {initial iters₀ slots₀ : List ℕ} {
     iters_same = long ∙ u.iters_same;
     slots_same = wide ∙ u.slots_same;
   }
-
-  -- all are
-  pub skip-done : left ≤ 0 → Skipped ts ss initial iters₀ count true iters slots
-  skip-done l =
-      let q : count - left ≡ count = omega arith in
-      record { rest = u.rest ∙ rw q; ready = u.ready; no_more = λ e. absurd (false≢true (sym e)) }

@@ -5,7 +5,7 @@ use mathlib.Core.List.{[]}
 use Prim.Native.Nat.{ℕ, ◌<◌}
 use lib.ListN.{length, get_or}
 use Rattle.capacity.specs.Capacity.{max_statements, max_selects}
-use Rattle.refusal.specs.declared.Verdict.TheVariants.{Fine}
+use Rattle.std.specs.Prelude.{Ok}
 use Rattle.query.specs.declared.Query.{Query}
 use Rattle.plan.specs.declared.Plan.{Plan}
 use Rattle.plan.specs.Plan.{scans_of}
@@ -19,7 +19,7 @@ use Rattle.eval.specs.Evaluation.{evaluation_fault}
 use Rattle.eval.proofs.Answers.{tables-answer}
 
 module _ (q : Query) (statements_sized : length q.where_statements.items ≡ max_statements) (selects_sized : length q.select.items ≡ max_selects)
-    (accepted : (plan_of q).verdict ≡ Fine) where
+    (accepted : (plan_of q).verdict ≡ Ok tt) where
   planned-count : (plan_of q).plan.scan_count ≡ q.where_statements.count
   unfolding plan_for
   planned-count = ap (λ (p : Plan). p.scan_count) (plan-there q statements_sized selects_sized accepted)

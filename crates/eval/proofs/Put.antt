@@ -1,11 +1,11 @@
 -- Selected slots, written one after the other over a buffer.
-use mathlib.Core.Path.{◌≡◌, sym, ◌∙◌}
-use mathlib.Core.List.{List, ◌++◌, map}
+use mathlib.Core.Path.{◌≡◌, sym}
+use mathlib.Core.List.{List, map}
 use Prim.Native.Nat.{ℕ, ◌+◌, ◌<◌, ◌≤◌}
 use native.Mathlib.Omega.{arith}
 use native.Mathlib.Numerals.{add-one}
-use lib.ListN.{length, get_or, take, drop, set, length-map, get_or-map}
-use lib.Seq.{take_all, paste, paste-suc}
+use lib.ListN.{length, get_or, set, length-map, get_or-map}
+use lib.Seq.{paste, paste-suc}
 use Rattle.eval.specs.Next.{selected_by}
 
 module _ (selects slots o out : List ℕ) (at j : ℕ) where
@@ -19,10 +19,3 @@ module _ (selects slots o out : List ℕ) (at j : ℕ) where
       let g : get_or slots (get_or selects j 0) 0 ≡ get_or (map value selects) j (value 0) = sym (get_or-map value selects j 0) in
       let m : j < length (map value selects) = rw (length-map selects value) l in
       rw (e, g, add-one) (paste-suc o at (map value selects) j (value 0) (omega arith) m)
-
-  -- all of them
-  pub put-done : j ≤ length selects → length selects ≤ j → out ≡ paste o at (selected_by selects slots) j
-      → out ≡ take at o ++ selected_by selects slots ++ drop (at + length selects) o
-  put-done h l e =
-      let q : j ≡ length selects = omega arith in
-      e ∙ rw (q, take_all (length selects) (map value selects) (rw (length-map selects value) (omega arith)))

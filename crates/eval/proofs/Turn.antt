@@ -6,8 +6,8 @@ use mathlib.Core.List.{List, ◌∷◌}
 use Prim.Native.Nat.{ℕ, suc, ◌+◌, ◌*◌, ◌-◌, ◌<◌, ◌≤◌}
 use native.Mathlib.Omega.{arith}
 use native.Mathlib.Nat.{eq-or-lt_of_le}
-use lib.ListN.{length, get_or, set, take, drop, length-drop}
-use lib.Seq.{get_or-set_same, get_or-set_other, drop-cons, take-take, length-take-le}
+use lib.ListN.{length, get_or, set, take, drop}
+use lib.Seq.{get_or-set_same, get_or-set_other, drop-cons, take-take}
 use Rattle.datom.specs.Fact.{words}
 use Rattle.tables.specs.Rows.{count, row}
 use Rattle.plan.specs.declared.Scan.{Scan}
@@ -32,10 +32,6 @@ pub record Turn (ts : Tables) (ss : List Scan) (initial iters₀ slots₀ : List
   pub same : pending ts ss initial iters (suc i) ≡ pending ts ss initial iters₀ (suc i)
   pub iters_same : length iters ≡ length iters₀
   pub slots_same : length slots ≡ length slots₀
-
-pub turn-start : (ts : Tables) (ss : List Scan) (initial iters slots : List ℕ) (i : ℕ) → Ready ts ss initial iters slots i
-    → Turn ts ss initial iters slots i iters slots
-turn-start ts ss initial iters slots i r = record { ready = r; above = λ j l. refl; same = refl; iters_same = refl; slots_same = refl }
 
 module _ {ts : Tables} {ss : List Scan} {initial iters₀ slots₀ : List ℕ} {i : ℕ} {iters slots : List ℕ}
     (u : Turn ts ss initial iters₀ slots₀ i iters slots) where
@@ -69,12 +65,6 @@ module _ {ts : Tables} {ss : List Scan} {initial iters₀ slots₀ : List ℕ} {
       abbrev left : List ℕ
       left = take (words * ending iters i - words * position iters i) (drop (words * position iters i) t)
 
-      left-length : length left ≡ words * ending iters i - words * position iters i
-      left-length = length-take-le _ (drop (words * position iters i) t) (simp length-drop (omega (arith, left_in)))
-
-      pub left-some : 0 < count left
-      left-some = rw left-length (omega arith)
-
       pub left-first : row left 0 ≡ row t (position iters i)
       unfolding row
       left-first = take-take words (words * ending iters i - words * position iters i) (drop (words * position iters i) t) (omega arith)
@@ -103,16 +93,6 @@ module _ {ts : Tables} {ss : List Scan} {initial iters₀ slots₀ : List ℕ} {
     yes_slots = λ q. no_true q;
     no_more = λ _. sym u.same ∙ pending-dry ts ss initial iters i l ∙ rw z refl;
     no_row = λ _ j g. let e : j ≡ i = omega arith in rw e l;
-  }
-
-  -- the scan outside can take a step
-  pub turn-ready : Ready ts ss initial iters slots (i - 1)
-  turn-ready = record {
-    low = omega (arith, u.ready.low);
-    iters_long = u.ready.iters_long;
-    slots_long = u.ready.slots_long;
-    ends = λ j l. u.ready.ends j (omega arith);
-    live = λ j l. u.ready.live j (omega arith);
   }
 
   module _ (dry : ending iters i ≤ position iters i) (nonzero : i ≡ 0 → ⊥) (iters₁ slots₁ : List ℕ) where

@@ -29,10 +29,6 @@ room_for ok room = record {
   slots_fit = omega (arith, ok.promised.few_slots, room.slots_room);
 }
 
--- what fits in a buffer fits in it after a call, which keeps its length
-pub still-fits : (n room room' : ℕ) → n ≤ room → room' ≡ room → n ≤ room'
-still-fits n room room' l e = rw e l
-
 selected-numbers : (ks : List Slot) (slots : List ℕ) → selected_by (numbers_of ks) slots ≡ selected ks slots
 selected-numbers [] slots = refl
 selected-numbers (k ∷ ks) slots = ap (λ (l : List ℕ). get_or slots k.0 0 ∷ l) (selected-numbers ks slots)

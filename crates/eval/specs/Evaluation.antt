@@ -1,8 +1,12 @@
 -- 01, "Tables and rows" and "Refusal numbers": evaluation is the plan check, 28 where there are no scans, the check of the tables, and then
 -- the window of the rows.
+use Rattle.std.specs.Prelude.{Result}
+use Rattle.refusal.specs.declared.Refusal.{Refusal}
+use Rattle.refusal.specs.Verdict.{answer}
+use Rattle.eval.specs.declared.rows.Shown.{Shown}
 use Rattle.std.specs.Prelude.{◌≡◌, Bool, false, ℕ, ◌*◌, ◌<◌, ◌≤◌, List, map, length, take, eqb}
-use Rattle.refusal.specs.declared.Verdict.{Verdict}
-use Rattle.refusal.specs.declared.Verdict.TheVariants.{Fine}
+use Rattle.refusal.specs.Verdict.{Verdict}
+use Rattle.std.specs.Prelude.{Ok}
 use Rattle.refusal.specs.Verdict.{refuse_if, or_else, unless}
 use Rattle.capacity.specs.Capacity.{max_scans, max_slots, max_selects}
 use Rattle.plan.specs.declared.Slot.{Slot}
@@ -18,7 +22,7 @@ use Rattle.visits.specs.Pending.{iter_words}
 use Rattle.eval.specs.Words.{laid_words, words_of}
 use Rattle.eval.specs.Steps.{Ascend}
 use Rattle.eval.specs.Next.{Shows}
-use Rattle.eval.specs.declared.Evaluated.{Evaluated}
+use Rattle.eval.specs.Answered.{Evaluated}
 
 -- what slots hold before any scan
 abbrev pub values_of : List SlotRecord → List ℕ
@@ -69,7 +73,7 @@ evaluation_fault p ts =
 
 -- a call that shows its window of some rows of a width, from number k on: how many of them have room, and whether another follows
 abbrev pub shows : List (List ℕ) → ℕ → ℕ → ℕ → Evaluated
-shows rows width k room = record { verdict = Fine; count = length (window rows width k room); more = follows rows width k room }
+shows rows width k room = record { verdict = Ok tt; count = length (window rows width k room); more = follows rows width k room }
 
 -- and the buffer that it leaves: those rows, and the words past the last as they were
 abbrev pub shown_in : List (List ℕ) → ℕ → ℕ → List ℕ → List ℕ
@@ -83,3 +87,7 @@ evaluate_of p ts k room =
 -- and the buffer after it
 unfoldable pub buffer_after : Plan → Tables → ℕ → List ℕ → List ℕ
 buffer_after p ts k buffer = unless (evaluation_fault p ts) (λ v. buffer) (shown_in (row_list p ts) (length (slots_selected p)) k buffer)
+
+-- what `evaluate` answers
+abbrev pub said_rows : Evaluated → Result Shown Refusal
+said_rows e = answer e.verdict (record { count = e.count; more = e.more })

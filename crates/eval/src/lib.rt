@@ -14,60 +14,33 @@ mod setup;
 mod walk;
 
 ghost use Rattle.std.specs.Prelude.{◌≡◌, length};
-ghost use Rattle.visits.specs.Visits.{tables_of};
-ghost use Rattle.eval.specs.Evaluation.{evaluation_fault, evaluate_of, buffer_after};
+ghost use Rattle.visits.specs.Visits.{lent};
+ghost use Rattle.eval.specs.Evaluation.{evaluation_fault, evaluate_of, buffer_after, said_rows};
 
 use plan::Plan;
-use refusal::{Verdict, refuse};
-
-// Whether evaluation is refused; how many rows were written, and whether another follows.
-#[derive(Clone, Copy)]
-pub struct Evaluated {
-    pub verdict: Verdict,
-    pub count: usize,
-    pub more: bool,
-}
+use refusal::{Refusal, Rule, Verdict, refuse};
+pub use rows::Shown;
+use tables::Tables;
 
 // Evaluate a plan over three tables: write its rows from number `from` on, as many whole rows as fit in the buffer. On a refusal
 // the buffer stays as it is.
-pub fn evaluate<'a>(
-    plan: Plan,
-    aevt: &'a [u64],
-    avet: &'a [u64],
-    eavt: &'a [u64],
-    from: u64,
-    rows: &mut [u64],
-) -> Evaluated
-    ensures value { result ≡ evaluate_of plan (tables_of aevt.now avet.now eavt.now) from (length rows.old) }
-    ensures rows_after { rows.new ≡ buffer_after plan (tables_of aevt.now avet.now eavt.now) from rows.old }
+#[tactic(auto, unfolding(crate::specs::Evaluation::evaluate_of, crate::specs::Evaluation::buffer_after))]
+pub fn evaluate(plan: Plan, tables: &Tables, from: u64, rows: &mut [u64]) -> Result<Shown, Refusal>
+    ensures value { result ≡ said_rows (evaluate_of plan (lent tables.now) from (length rows.old)) }
+    ensures rows_after { rows.new ≡ buffer_after plan (lent tables.now) from rows.old }
 {
-    let verdict = check(plan, aevt, avet, eavt);
-    if let Verdict::Refused(_) = verdict {
-        return Evaluated {
-            verdict: verdict,
-            count: 0,
-            more: false,
-        };
-    }
-    let shown = setup::evaluate_checked(plan, aevt, avet, eavt, from, rows);
-    Evaluated {
-        verdict: Verdict::Fine,
-        count: shown.count,
-        more: shown.more,
-    }
+    check(plan, tables)?;
+    Ok(setup::evaluate_checked(plan, tables, from, rows))
 }
 
 // Whether evaluation refuses: the plan check, 28 where there are no scans, and the check of the tables.
 #[tactic(auto, unfolding(crate::specs::Evaluation::evaluation_fault))]
-pub fn check<'a>(plan: Plan, aevt: &'a [u64], avet: &'a [u64], eavt: &'a [u64]) -> Verdict
-    ensures { result ≡ evaluation_fault plan (tables_of aevt.now avet.now eavt.now) }
+pub fn check(plan: Plan, tables: &Tables) -> Verdict
+    ensures { result ≡ evaluation_fault plan (lent tables.now) }
 {
-    let plan_fault = plan_check::check_invariants(plan);
-    if let Verdict::Refused(_) = plan_fault {
-        return plan_fault;
-    }
+    plan_check::check_invariants(plan)?;
     if plan.scan_count == 0 {
-        return refuse(refusal::NO_SCANS, 0);
+        return refuse(Rule::NoScans, 0);
     }
-    tables::check_tables(aevt, avet, eavt)
+    tables.check()
 }

@@ -16,7 +16,7 @@ ghost use Rattle.eval.specs.Words.{scans_in, LiesAt, Laid};
 ghost use Rattle.eval.specs.Steps.{key_of, filled_from, Found, Ascend, Ready, Stepped};
 
 use datom::WORDS;
-use plan::{AEVT, AVET, EAVT};
+use plan::{AEVT, AVET, EAVT, IN_OUT, OUT_OUT};
 
 // A scan's words: its table's number, how many inputs it has, its attribute, and its two slots in index order.
 pub(crate) const LAID_WORDS: usize = 5;
@@ -31,45 +31,59 @@ pub(crate) struct Iter {
     pub end: usize,
 }
 
-// Increment the i-th iterator.
-//
-// If it is exhausted, increment the (i-1)-th iterator and reset the i-th one, etc., until the 0-th iterator is exhausted.
-//
-// Returns whether a new value was successfully stored. `initial` is what the slots held before any scan: nothing reads it, and
-// the contract names it.
-pub(crate) fn increment<'a>(
-    i: usize,
-    words: &[u64],
-    aevt: &'a [u64],
-    avet: &'a [u64],
-    eavt: &'a [u64],
-    initial: &[u64],
-    iters: &mut [usize],
-    slots: &mut [u64],
-) -> bool
-    requires laid { Laid words.now (length slots.old) }
-    requires ascend { Ascend (tables_of aevt.now avet.now eavt.now) }
-    requires ready { Ready (tables_of aevt.now avet.now eavt.now) (scans_in words.now) initial.now iters.old slots.old i }
-    ensures { Stepped (tables_of aevt.now avet.now eavt.now) (scans_in words.now) initial.now iters.old i result iters.new slots.new }
-{
-    let table = get_table(aevt, avet, eavt, words[LAID_WORDS * i]);
-    loop {
-        let position = iters[ITER_WORDS * i];
-        let end = iters[ITER_WORDS * i + 1];
-        if position < end {
-            iters[ITER_WORDS * i] = position + 1;
-            fill_slots(i, words, &table[WORDS * position..WORDS * end], slots);
-            return true;
+// What the nested loops run over, and no step changes: the scans as words, three sorted tables, and what the slots held before any scan, which
+// nothing reads and the contracts name.
+#[derive(Clone, Copy)]
+pub(crate) struct Nest<'a> {
+    pub words: &'a [u64],
+    pub aevt: &'a [u64],
+    pub avet: &'a [u64],
+    pub eavt: &'a [u64],
+    pub initial: &'a [u64],
+    ghost laid: { Laid words.now (length initial.now) },
+    ghost ascend: { Ascend (tables_of aevt.now avet.now eavt.now) },
+}
+
+impl<'a> Nest<'a> {
+    // Increment the i-th iterator.
+    //
+    // If it is exhausted, increment the (i-1)-th iterator and reset the i-th one, etc., until the 0-th iterator is exhausted.
+    //
+    // Returns whether a new value was successfully stored.
+    pub(crate) fn increment(&self, i: usize, iters: &mut [usize], slots: &mut [u64]) -> bool
+        requires { Ready (tables_of self.now.aevt.now self.now.avet.now self.now.eavt.now) (scans_in self.now.words.now) self.now.initial.now iters.old slots.old i }
+        ensures { Stepped (tables_of self.now.aevt.now self.now.avet.now self.now.eavt.now) (scans_in self.now.words.now) self.now.initial.now iters.old i result iters.new slots.new }
+    {
+        let table = self.table(self.words[LAID_WORDS * i]);
+        loop {
+            let position = iters[ITER_WORDS * i];
+            let end = iters[ITER_WORDS * i + 1];
+            if position < end {
+                iters[ITER_WORDS * i] = position + 1;
+                fill_slots(i, self.words, &table[WORDS * position..WORDS * end], slots);
+                return true;
+            }
+            if i == 0 {
+                return false;
+            }
+            if !self.increment(i - 1, iters, slots) {
+                return false;
+            }
+            let iter = get_iter(i, self.words, table, slots);
+            iters[ITER_WORDS * i] = iter.position;
+            iters[ITER_WORDS * i + 1] = iter.end;
         }
-        if i == 0 {
-            return false;
+    }
+
+    // The table with this number.
+    pub(crate) fn table(&self, number: u64) -> &'a [u64]
+        ensures { result.now ≡ table_of (tables_of self.now.aevt.now self.now.avet.now self.now.eavt.now) (index_of_code number) }
+    {
+        match number {
+            AEVT => self.aevt,
+            AVET => self.avet,
+            _ => self.eavt,
         }
-        if !increment(i - 1, words, aevt, avet, eavt, initial, iters, slots) {
-            return false;
-        }
-        let iter = get_iter(i, words, table, slots);
-        iters[ITER_WORDS * i] = iter.position;
-        iters[ITER_WORDS * i + 1] = iter.end;
     }
 }
 
@@ -109,35 +123,15 @@ fn fill_slots(i: usize, words: &[u64], rows: &[u64], slots: &mut [u64])
     requires rows_nonzero { 0 < count rows.now }
     ensures { slots.new ≡ filled_from (row rows.now 0) (get_or (scans_in words.now) i zero_scan) slots.old }
 {
-    let inputs = words[LAID_WORDS * i + 1];
-    if inputs == 2 {
-        // Only the iteration matters, the values are known.
-        return;
-    }
     let first = words[LAID_WORDS * i + 3] as usize;
     let second = words[LAID_WORDS * i + 4] as usize;
-    if inputs == 0 {
-        slots[first] = rows[1];
-        slots[second] = rows[2];
-        return;
+    match words[LAID_WORDS * i + 1] {
+        OUT_OUT => {
+            slots[first] = rows[1];
+            slots[second] = rows[2];
+        }
+        IN_OUT => slots[second] = rows[2],
+        // Only the iteration matters, the values are known.
+        _ => {}
     }
-    slots[second] = rows[2];
-}
-
-// The table with this number.
-pub(crate) fn get_table<'a>(
-    aevt: &'a [u64],
-    avet: &'a [u64],
-    eavt: &'a [u64],
-    number: u64,
-) -> &'a [u64]
-    ensures { result.now ≡ table_of (tables_of aevt.now avet.now eavt.now) (index_of_code number) }
-{
-    if number == AEVT {
-        return aevt;
-    }
-    if number == AVET {
-        return avet;
-    }
-    eavt
 }

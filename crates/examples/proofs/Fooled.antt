@@ -4,7 +4,7 @@ use mathlib.Core.List.{List, [], ◌∷◌}
 use Prim.Native.Nat.{ℕ}
 use native.Mathlib.Omega.{arith}
 use Rattle.capacity.specs.Capacity.{max_statements, max_selects}
-use Rattle.refusal.specs.declared.Verdict.TheVariants.{Fine}
+use Rattle.std.specs.Prelude.{Ok}
 use Rattle.refusal.specs.Verdict.{first_fault, refuse_first}
 use Rattle.lists.specs.Padded.{padded}
 use Rattle.lists.proofs.Padded.{padded-length}
@@ -25,19 +25,19 @@ use Rattle.meaning.proofs.Entries.{plan-shown}
 use Rattle.examples.specs.Bench.{e, over_attribute, triples, no_triples}
 
 -- E is planned
-accepted : (plan_of e).verdict ≡ Fine
+accepted : (plan_of e).verdict ≡ Ok tt
 unfolding plan_of plan_fault query_fault capacity_fault variables_fault constants refuse_first first_fault statements_fault selects_fault unused_fault span named bound_twice_fault padded
 accepted = refl
 
 -- its plan's rows mean it, over any tables that pass their check
-e-means : (ts : Tables) → tables_fault ts.aevt ts.avet ts.eavt ≡ Fine → Meaning ts e (row_list (plan_of e).plan ts)
+e-means : (ts : Tables) → tables_fault ts.aevt ts.avet ts.eavt ≡ Ok tt → Meaning ts e (row_list (plan_of e).plan ts)
 e-means ts fine = (plan-shown e (padded-length _ max_statements _) (padded-length _ max_selects _) accepted initial_plan ts (fine-same ts fine)).meaning
 
-triples-pass : tables_fault triples.aevt triples.avet triples.eavt ≡ Fine
+triples-pass : tables_fault triples.aevt triples.avet triples.eavt ≡ Ok tt
 unfolding tables_fault refuse_first first_fault missing_fault is_among same_row ascending before row span
 triples-pass = refl
 
-none_pass : tables_fault [] [] [] ≡ Fine
+none_pass : tables_fault [] [] [] ≡ Ok tt
 unfolding tables_fault refuse_first first_fault missing_fault ascending span
 none_pass = refl
 

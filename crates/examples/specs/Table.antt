@@ -1,8 +1,9 @@
 -- 01, "Bench examples": the lines marked P in one table: a question that the definitions answer, and what 01 says.
+use Rattle.refusal.specs.Verdict.{number_in}
 use Rattle.std.specs.Prelude.{ℕ, List, [], ◌∷◌, map, Bool, true, false, cond, ◌&&◌, length}
-use Rattle.refusal.specs.declared.Verdict.{Verdict}
-use Rattle.refusal.specs.declared.Verdict.TheVariants.{Fine, Refused}
-use Rattle.permutation.specs.declared.NextSwap.{NextSwap}
+use Rattle.refusal.specs.Verdict.{Verdict}
+use Rattle.std.specs.Prelude.{Ok, Err}
+use Rattle.permutation.specs.Answered.{NextSwap}
 use Rattle.permutation.specs.Swaps.{start}
 use Rattle.orders.specs.Lists.{up_to, factorial}
 use Rattle.orders.specs.Listing.{answer_at}
@@ -24,8 +25,8 @@ use Rattle.examples.specs.Bench.{e, reversed, alone, pair, turned, triples, cons
 
 -- a refusal's number and place; none where it is fine
 abbrev pub refusal_words : Verdict → List ℕ
-refusal_words Fine = []
-refusal_words (Refused r) = r.number ∷ r.place ∷ []
+refusal_words (Ok tt) = []
+refusal_words (Err r) = number_in r.rule ∷ r.place ∷ []
 
 -- the two numbers of a swap; none where there is none
 abbrev pub swap_words : NextSwap → List ℕ

@@ -8,7 +8,7 @@ use lib.ListN.{length, take, drop, length-append, length-drop}
 use lib.Seq.{take-append_seam, drop-append_seam}
 use lib.Dec.{ltb}
 use Rattle.capacity.specs.Capacity.{max_scans, max_slots, max_selects}
-use Rattle.refusal.specs.declared.Verdict.TheVariants.{Fine}
+use Rattle.std.specs.Prelude.{Ok}
 use Rattle.refusal.specs.Verdict.{refuse_if}
 use Rattle.refusal.proofs.Fine.{refuse-fine, or-fine}
 use Rattle.lists.proofs.Every.{every_map}
@@ -18,7 +18,7 @@ use Rattle.plan.specs.Plan.{zero_slot, zero_scan, variable_slot, scans_of, slots
 use Rattle.plan_check.specs.Check.{check_of}
 use Rattle.bits.specs.Bits.{packed, unpacked, AllBelow}
 use Rattle.bits.proofs.Laws.{unpacked-below}
-use Rattle.image.specs.declared.PlanRead.{PlanRead}
+use Rattle.image.specs.Answered.{PlanRead}
 use Rattle.image.specs.Image.{plan_bits, image_of, image_fault, image_after}
 use Rattle.image.specs.Read.{Parsed, met, stopped, parsed, read_as, plan_read_of}
 use Rattle.image.specs.Fits.{ScanHeld, Held, zeroed, Image}
@@ -31,11 +31,11 @@ unfolding plan_bits
 image-alike p q e = let h : plan_bits p ≡ plan_bits q = rw (e.slots, e.scans, e.selects, e.scan_counts, e.slot_counts, e.select_counts) refl in ap packed h
 
 -- and plans that pass the check and have one image are equal
-pub same-image : (p q : Plan) → check_of p ≡ Fine → Held p → check_of q ≡ Fine → Held q → image_of p ≡ image_of q → zeroed p ≡ zeroed q
+pub same-image : (p q : Plan) → check_of p ≡ Ok tt → Held p → check_of q ≡ Ok tt → Held q → image_of p ≡ image_of q → zeroed p ≡ zeroed q
 same-image p q f h g k e = ap (λ (r : PlanRead). r.plan) (sym (read_back p f h) ∙ ap plan_read_of e ∙ read_back q g k)
 
 -- two accepted images of equal plans are the same bytes
-pub same-spelling : (b c : List ℕ) → AllBelow 256 b → AllBelow 256 c → (plan_read_of b).verdict ≡ Fine → (plan_read_of c).verdict ≡ Fine
+pub same-spelling : (b c : List ℕ) → AllBelow 256 b → AllBelow 256 c → (plan_read_of b).verdict ≡ Ok tt → (plan_read_of c).verdict ≡ Ok tt
     → SamePlan (plan_read_of b).plan (plan_read_of c).plan → b ≡ c
 same-spelling b c p q f g e = one-spelling b p f ∙ image-alike (plan_read_of b).plan (plan_read_of c).plan e ∙ sym (one-spelling c q g)
 
@@ -51,11 +51,11 @@ image-held p h = record {
 }
 
 -- what is accepted passes the check and can be written again
-pub read_held : (b : List ℕ) → (plan_read_of b).verdict ≡ Fine → Held (plan_read_of b).plan × (check_of (plan_read_of b).plan ≡ Fine)
+pub read_held : (b : List ℕ) → (plan_read_of b).verdict ≡ Ok tt → Held (plan_read_of b).plan × (check_of (plan_read_of b).plan ≡ Ok tt)
 unfolding plan_read_of
 read_held b e = go (parsed (unpacked b)) refl e
   where
-    go : (r : Parsed Plan) → parsed (unpacked b) ≡ r → (read_as r).verdict ≡ Fine → Held (read_as r).plan × (check_of (read_as r).plan ≡ Fine)
+    go : (r : Parsed Plan) → parsed (unpacked b) ≡ r → (read_as r).verdict ≡ Ok tt → Held (read_as r).plan × (check_of (read_as r).plan ≡ Ok tt)
     go (stopped v) t e = absurd (let z : ◌≡◌ {A = ℕ} 0 1 = cc in omega arith)
     go (met p l' at) t e =
         let a = accepted (unpacked b) p l' at t in
@@ -63,7 +63,7 @@ read_held b e = go (parsed (unpacked b)) refl e
         (image-held p s.fits, a.checked)
 
 -- writing changes no byte but the image's, and what it wrote reads back
-module _ (p : Plan) (buffer : List ℕ) (fine : image_fault p (length buffer) ≡ Fine) where
+module _ (p : Plan) (buffer : List ℕ) (fine : image_fault p (length buffer) ≡ Ok tt) where
   after : image_after p buffer ≡ image_of p ++ drop (length (image_of p)) buffer
   unfolding image_after
   after = rw fine refl

@@ -4,7 +4,7 @@ use Prim.Native.Nat.{ℕ, ◌+◌}
 use mathlib.Core.List.{List, [], ◌∷◌, ◌++◌, map}
 use lib.ListN.{get_or, take}
 use Rattle.capacity.specs.Capacity.{max_scans, max_slots, max_selects}
-use Rattle.refusal.specs.declared.Verdict.TheVariants.{Fine}
+use Rattle.std.specs.Prelude.{Ok}
 use Rattle.refusal.specs.Verdict.{refused, first_fault, refuse_first}
 use Rattle.lists.specs.Laid.{laid}
 use Rattle.lists.specs.Padded.{padded}
@@ -16,7 +16,7 @@ use Rattle.plan.specs.declared.Flow.TheVariants.{OutOut, InIn}
 use Rattle.plan.specs.Plan.{zero_slot, zero_scan, variable_slot, empty_plan, counts_fault}
 use Rattle.plan_check.specs.Check.{is_written, is_set, slot_fault, scan_fault, scans_fault, unset_fault, initialization_fault, select_fault, selects_fault, check_of}
 use Rattle.bits.specs.Bits.{bits, number_from, packed_within}
-use Rattle.image.specs.declared.PlanRead.{PlanRead}
+use Rattle.image.specs.Answered.{PlanRead}
 use Rattle.image.specs.Image.{plan_bits, image_of}
 use Rattle.image.specs.Read.{field, code, slot, scan, select, many, all_zero, end_fault, fields, parsed, plan_read_of}
 
@@ -43,7 +43,7 @@ record Line : Type 0 where
   answer : PlanRead
 
 abbrev fine : List ℕ → Plan → Line
-fine b p = record { given = b; answer = record { verdict = Fine; plan = p } }
+fine b p = record { given = b; answer = record { verdict = Ok tt; plan = p } }
 
 abbrev refuses : List ℕ → ℕ → ℕ → Line
 refuses b n place = record { given = b; answer = record { verdict = refused n place; plan = empty_plan } }

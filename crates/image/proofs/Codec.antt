@@ -9,8 +9,8 @@ use borrow.Author.Tests.{ltb-true, ltb-false, lt-ltb, le-ltb}
 use lib.ListN.{length, take, drop, length-append, take-append-drop}
 use lib.Seq.{take-append-le, take-append-add, take_at, drop_at, length-take-le}
 use lib.Dec.{ltb}
-use Rattle.refusal.specs.declared.Verdict.{Verdict}
-use Rattle.refusal.specs.declared.Verdict.TheVariants.{Fine, Refused}
+use Rattle.refusal.specs.Verdict.{Verdict}
+use Rattle.std.specs.Prelude.{Ok, Err}
 use Rattle.lists.specs.Laid.{laid}
 use Rattle.bits.specs.Bits.{bits, number, AllBelow}
 use Rattle.bits.proofs.Laws.{below-behind, below-take, bits-length, number-bits, number_lt, bits-number}
@@ -155,15 +155,15 @@ module _ {A B : Type 0} (p : List ℕ → ℕ → Parsed A) (enc : A → List �
   codec-map = record { reads = map-reads; spells = map-spells; short = map-short }
 
 -- a verdict before
-module _ {A : Type 0} (v : Verdict) (p : List ℕ → ℕ → Parsed A) (enc : A → List ℕ) (Fit : A → Type 0) (c : v ≡ Fine → Codec p enc Fit) where
+module _ {A : Type 0} (v : Verdict) (p : List ℕ → ℕ → Parsed A) (enc : A → List ℕ) (Fit : A → Type 0) (c : v ≡ Ok tt → Codec p enc Fit) where
   guard-spells : (l : List ℕ) (at : ℕ) (a : A) (l' : List ℕ) (at' : ℕ) → AllBelow 2 l → (w : Verdict) → v ≡ w → unless_fault w (p l at) ≡ met a l' at'
-      → Spelled enc (λ a. (v ≡ Fine) × Fit a) l at a l' at'
-  guard-spells l at a l' at' all (Refused r) t e = absurd (let z : ◌≡◌ {A = ℕ} 0 1 = cc in omega arith)
-  guard-spells l at a l' at' all Fine t e =
+      → Spelled enc (λ a. (v ≡ Ok tt) × Fit a) l at a l' at'
+  guard-spells l at a l' at' all (Err r) t e = absurd (let z : ◌≡◌ {A = ℕ} 0 1 = cc in omega arith)
+  guard-spells l at a l' at' all (Ok tt) t e =
       let s = (c t).spells l at a l' at' all e in
       record { fits = (t, s.fits); spelling = s.spelling; taken = s.taken }
 
-  pub codec-guard : Codec (λ l at. unless_fault v (p l at)) enc (λ a. (v ≡ Fine) × Fit a)
+  pub codec-guard : Codec (λ l at. unless_fault v (p l at)) enc (λ a. (v ≡ Ok tt) × Fit a)
   codec-guard = record {
     reads = λ a l at h. rw h.0 ((c h.0).reads a l at h.1);
     spells = λ l at a l' at' all e. guard-spells l at a l' at' all v refl e;

@@ -5,7 +5,7 @@ use mathlib.Core.List.{List, ◌++◌, append_assoc}
 use native.Mathlib.Omega.{arith}
 use lib.ListN.{length}
 use Rattle.capacity.specs.Capacity.{max_scans, max_slots, max_selects}
-use Rattle.refusal.specs.declared.Verdict.TheVariants.{Fine}
+use Rattle.std.specs.Prelude.{Ok}
 use Rattle.lists.proofs.Padded.{padded-take}
 use Rattle.plan.specs.declared.Scan.{Scan}
 use Rattle.plan.specs.declared.SlotRecord.{SlotRecord}
@@ -34,7 +34,7 @@ abbrev Fit4 : ℕ → ℕ → ℕ → Plan → Type 0
 Fit4 n m k p = Many SlotHeld m (slots_of p) × Fit5 n m k (slots_of p) p
 
 abbrev Guarded : ℕ → ℕ → ℕ → Plan → Type 0
-Guarded n m k p = (counts_fault n m k ≡ Fine) × Fit4 n m k p
+Guarded n m k p = (counts_fault n m k ≡ Ok tt) × Fit4 n m k p
 
 abbrev Fit3 : ℕ → ℕ → Plan → Type 0
 Fit3 n m p = (p.select_count < 2 ^ 6) × Guarded n m p.select_count p
@@ -78,7 +78,7 @@ bits3 p = bits 6 p.select_count ++ bits4 p
 abbrev bits2 : Plan → List ℕ
 bits2 p = bits 7 p.slot_count ++ bits3 p
 
-module _ (n m k : ℕ) (fine : counts_fault n m k ≡ Fine) where
+module _ (n m k : ℕ) (fine : counts_fault n m k ≡ Ok tt) where
   codec6 : (ss : List SlotRecord) (xs : List Scan) → Codec (part6 n m k ss xs) bits6 (Fit6 n m k ss xs)
   codec6 ss xs =
       codec-map (many select k) (laid select_bits) (Many SelectHeld k) (codec-many select select_bits SelectHeld codec-select k) (plan_read n m k ss xs) slots_selected

@@ -6,7 +6,7 @@ use mathlib.Core.Bool.{false, cond}
 use native.Mathlib.Omega.{arith}
 use borrow.Author.Tests.{eqb-false, ne_eqb}
 use lib.Dec.{eqb}
-use Rattle.refusal.specs.declared.Verdict.TheVariants.{Fine}
+use Rattle.std.specs.Prelude.{Ok}
 use Rattle.refusal.specs.Verdict.{refuse_if}
 use Rattle.refusal.proofs.Fine.{refuse-fine}
 use Rattle.plan.specs.Codes.{index_code, flow_code, index_of_code, flow_of_code}
@@ -32,7 +32,7 @@ Coded c b = (eqb c 3 ≡ false) × (c ≡ b)
 
 code-end : (at c : ℕ) → Codec (λ l at'. unless_fault (refuse_if (eqb c 3) 61 (at / 8)) (met c l at')) (λ _. []) (Coded c)
 code-end at c =
-    codec-as _ (λ _. []) (λ _. []) (λ b. (refuse_if (eqb c 3) 61 (at / 8) ≡ Fine) × (c ≡ b)) (Coded c)
+    codec-as _ (λ _. []) (λ _. []) (λ b. (refuse_if (eqb c 3) 61 (at / 8) ≡ Ok tt) × (c ≡ b)) (Coded c)
     (λ b h. (refuse-fine (eqb c 3) 61 (at / 8) h.0, h.1)) (λ b h. (rw h.0 refl, h.1)) (λ b h. refl)
     (codec-guard (refuse_if (eqb c 3) 61 (at / 8)) (λ l at'. met c l at') (λ _. []) (λ b. c ≡ b) (λ _. codec-none c))
 

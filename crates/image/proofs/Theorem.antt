@@ -10,8 +10,8 @@ use lib.ListN.{length, get_or, take, replicate, length-append, length-replicate}
 use lib.Seq.{take_all, take-append-le, length-take-le}
 use lib.Dec.{ltb, eqb}
 use Rattle.capacity.specs.Capacity.{max_scans, max_slots, max_selects}
-use Rattle.refusal.specs.declared.Verdict.{Verdict}
-use Rattle.refusal.specs.declared.Verdict.TheVariants.{Fine, Refused}
+use Rattle.refusal.specs.Verdict.{Verdict}
+use Rattle.std.specs.Prelude.{Ok, Err}
 use Rattle.refusal.specs.Verdict.{refused, refuse_if, or_else}
 use Rattle.refusal.proofs.Fine.{refuse-fine, or-fine}
 use Rattle.lists.proofs.Every.{every_of, every-and}
@@ -51,7 +51,7 @@ all-zeros (b ∷ l) h =
     let g = both (eqb b 0) (all_zero l) h in
     rw (eqb-true b 0 g.0) (ap (λ (t : List ℕ). 0 ∷ t) (all-zeros l g.1))
 
-end-fine : (n : ℕ) → end_fault (replicate (padding n) 0) n ≡ Fine
+end-fine : (n : ℕ) → end_fault (replicate (padding n) 0) n ≡ Ok tt
 unfolding end_fault
 end-fine n =
     let k = padding n in
@@ -64,7 +64,7 @@ pub record Ended (l : List ℕ) (at : ℕ) : Type 0 where
   pub zeros : l ≡ replicate (length l) 0
   pub few : length l ≤ padding at
 
-end-ended : (l : List ℕ) (at : ℕ) → end_fault l at ≡ Fine → Ended l at
+end-ended : (l : List ℕ) (at : ℕ) → end_fault l at ≡ Ok tt → Ended l at
 unfolding end_fault
 end-ended l at e =
     let k = padding at in
@@ -74,7 +74,7 @@ end-ended l at e =
     record { zeros = all-zeros l (rw (take_all k l few) at z); few = few }
 
 -- a plan as it is read, written and read
-image-read : (p : Plan) → Image p → check_of p ≡ Fine → plan_read_of (image_of p) ≡ record { verdict = Fine; plan = p }
+image-read : (p : Plan) → Image p → check_of p ≡ Ok tt → plan_read_of (image_of p) ≡ record { verdict = Ok tt; plan = p }
 unfolding plan_read_of parsed
 image-read p h c =
     let n = length (plan_bits p) in
@@ -97,8 +97,8 @@ image-short p k h few =
 -- what is accepted was read, ended well and passes the check
 pub record Accepted (l : List ℕ) (p : Plan) (l' : List ℕ) (at : ℕ) : Type 0 where
   pub met_all : fields l 0 ≡ met p l' at
-  pub ended : end_fault l' at ≡ Fine
-  pub checked : check_of p ≡ Fine
+  pub ended : end_fault l' at ≡ Ok tt
+  pub checked : check_of p ≡ Ok tt
 
 pub accepted : (l : List ℕ) (p : Plan) (l' : List ℕ) (at : ℕ) → parsed l ≡ met p l' at → Accepted l p l' at
 unfolding parsed
@@ -109,8 +109,8 @@ accepted l p l' at e = go (fields l 0) refl e
     go (met q m k) t e = next (or_else (end_fault m k) (check_of q)) refl e
       where
         next : (v : Verdict) → or_else (end_fault m k) (check_of q) ≡ v → unless_fault v (met q m k) ≡ met p l' at → Accepted l p l' at
-        next (Refused r) u e = absurd (let z : ◌≡◌ {A = ℕ} 0 1 = cc in omega arith)
-        next Fine u e =
+        next (Err r) u e = absurd (let z : ◌≡◌ {A = ℕ} 0 1 = cc in omega arith)
+        next (Ok tt) u e =
             let b = or-fine (end_fault m k) (check_of q) u in
             let eq : q ≡ p = cc in
             let em : m ≡ l' = cc in
@@ -132,11 +132,11 @@ spelled b p l' at bytes e =
     unpacked-same b (image_of p) bytes (packed-below n (plan_bits p) (plan-below p)) (s.spelling ∙ ap (λ (t : List ℕ). plan_bits p ++ t) tail ∙ sym u)
 
 -- an accepted image has one spelling
-pub one-spelling : (b : List ℕ) → AllBelow 256 b → (plan_read_of b).verdict ≡ Fine → b ≡ image_of (plan_read_of b).plan
+pub one-spelling : (b : List ℕ) → AllBelow 256 b → (plan_read_of b).verdict ≡ Ok tt → b ≡ image_of (plan_read_of b).plan
 unfolding plan_read_of
 one-spelling b bytes e = go (parsed (unpacked b)) refl e
   where
-    go : (r : Parsed Plan) → parsed (unpacked b) ≡ r → (read_as r).verdict ≡ Fine → b ≡ image_of (read_as r).plan
+    go : (r : Parsed Plan) → parsed (unpacked b) ≡ r → (read_as r).verdict ≡ Ok tt → b ≡ image_of (read_as r).plan
     go (stopped v) t e = absurd (let z : ◌≡◌ {A = ℕ} 0 1 = cc in omega arith)
     go (met p l' at) t e = spelled b p l' at bytes t
 
@@ -150,8 +150,8 @@ abbrev Named : ℕ → Scan → Type 0
 Named n s = (s.entity.0 < n) × (s.value.0 < n)
 
 -- a plan that passes the check, and the same with zeros past its counts
-module _ (p : Plan) (fine : check_of p ≡ Fine) (held : Held p) where
-  counts-passed : counts_fault p.scan_count p.slot_count p.select_count ≡ Fine
+module _ (p : Plan) (fine : check_of p ≡ Ok tt) (held : Held p) where
+  counts-passed : counts_fault p.scan_count p.slot_count p.select_count ≡ Ok tt
   unfolding check_of
   counts-passed = (or-fine (counts_fault p.scan_count p.slot_count p.select_count) _ fine).0
 
@@ -211,7 +211,7 @@ module _ (p : Plan) (fine : check_of p ≡ Fine) (held : Held p) where
     zeros = rw (slots_same, scans-same, selects-same) refl;
   }
 
-  zeroed-passes : check_of (zeroed p) ≡ Fine
+  zeroed-passes : check_of (zeroed p) ≡ Ok tt
   unfolding check_of
   zeroed-passes = rw (slots_same, scans-same, selects-same) fine
 
@@ -220,7 +220,7 @@ module _ (p : Plan) (fine : check_of p ≡ Fine) (held : Held p) where
   zeroed-bits = rw (slots_same, scans-same, selects-same) refl
 
   -- read after write gives the plan back
-  pub read_back : plan_read_of (image_of p) ≡ record { verdict = Fine; plan = zeroed p }
+  pub read_back : plan_read_of (image_of p) ≡ record { verdict = Ok tt; plan = zeroed p }
   read_back = ap (λ (l : List ℕ). plan_read_of (packed l)) (sym zeroed-bits) ∙ image-read (zeroed p) zeroed-image zeroed-passes
 
   pub same-plan : SamePlan (zeroed p) p

@@ -1,7 +1,7 @@
 -- What a field of an image can hold.
 use Rattle.std.specs.Prelude.{◌≡◌, ◌^◌, ◌<◌, length}
 use Rattle.lists.specs.Every.{Every}
-use Rattle.refusal.specs.declared.Verdict.TheVariants.{Fine}
+use Rattle.std.specs.Prelude.{Ok}
 use Rattle.plan.specs.declared.Slot.{Slot}
 use Rattle.plan.specs.declared.Scan.{Scan}
 use Rattle.plan.specs.declared.SlotRecord.{SlotRecord}
@@ -40,7 +40,7 @@ zeroed p = plan_read p.scan_count p.slot_count p.select_count (slots_of p) (scan
 
 -- a plan as it is read: counts within the capacities, as many as they say, each in its field, zeros past them
 pub record Image (p : Plan) : Type 0 where
-  pub counted : counts_fault p.scan_count p.slot_count p.select_count ≡ Fine
+  pub counted : counts_fault p.scan_count p.slot_count p.select_count ≡ Ok tt
   pub many_slots : length (slots_of p) ≡ p.slot_count
   pub slots : Every SlotHeld (slots_of p)
   pub many_scans : length (scans_of p) ≡ p.scan_count

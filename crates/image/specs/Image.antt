@@ -1,7 +1,7 @@
 -- Ticket 2: a plan as bit-packed fields.
 use Rattle.std.specs.Prelude.{ℕ, ◌+◌, List, [], ◌∷◌, ◌++◌, length, drop, ltb}
-use Rattle.refusal.specs.declared.Verdict.{Verdict}
-use Rattle.refusal.specs.declared.Verdict.TheVariants.{Fine}
+use Rattle.refusal.specs.Verdict.{Verdict}
+use Rattle.std.specs.Prelude.{Ok}
 use Rattle.refusal.specs.Verdict.{refuse_if, or_else, unless}
 use Rattle.lists.specs.Laid.{laid}
 use Rattle.plan.specs.declared.Slot.{Slot}
@@ -13,7 +13,7 @@ use Rattle.plan.specs.declared.Plan.{Plan}
 use Rattle.plan.specs.Codes.{index_code, flow_code}
 use Rattle.plan.specs.Plan.{scans_of, slots_of, slots_selected}
 use Rattle.plan_check.specs.Check.{check_of}
-use Rattle.image.specs.declared.Stored.{Stored}
+use Rattle.image.specs.Answered.{Stored}
 use Rattle.bits.specs.Bits.{bits, packed}
 
 -- per slot one bit for constant and then 64 bits if it is one
@@ -60,4 +60,4 @@ image_after p buffer = unless (image_fault p (length buffer)) (λ _. buffer) (im
 
 -- the image's length
 unfoldable pub stored_of : Plan → ℕ → Stored
-stored_of p room = unless (image_fault p room) (λ v. record { verdict = v; length = 0 }) (record { verdict = Fine; length = length (image_of p) })
+stored_of p room = unless (image_fault p room) (λ v. record { verdict = v; length = 0 }) (record { verdict = Ok tt; length = length (image_of p) })

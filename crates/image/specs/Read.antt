@@ -2,9 +2,9 @@
 use Rattle.std.specs.Prelude.{ℕ, zero, suc, ◌+◌, ◌/◌, List, [], ◌∷◌, Bool, true, not, ◌&&◌, cond, length, take, drop, ltb, eqb}
 use Rattle.capacity.specs.Capacity.{max_scans, max_slots, max_selects}
 use Rattle.refusal.specs.declared.Refusal.{Refusal}
-use Rattle.refusal.specs.declared.Verdict.{Verdict}
-use Rattle.refusal.specs.declared.Verdict.TheVariants.{Fine, Refused}
-use Rattle.refusal.specs.Verdict.{refuse_if, or_else}
+use Rattle.refusal.specs.Verdict.{Verdict}
+use Rattle.std.specs.Prelude.{Ok, Err}
+use Rattle.refusal.specs.Verdict.{refuse_if, or_else, rule_of}
 use Rattle.lists.specs.Padded.{padded}
 use Rattle.plan.specs.declared.Slot.{Slot}
 use Rattle.plan.specs.declared.Scan.{Scan}
@@ -14,7 +14,7 @@ use Rattle.plan.specs.declared.Plan.{Plan}
 use Rattle.plan.specs.Codes.{index_of_code, flow_of_code}
 use Rattle.plan.specs.Plan.{zero_slot, zero_scan, variable_slot, empty_plan, counts_fault}
 use Rattle.plan_check.specs.Check.{check_of}
-use Rattle.image.specs.declared.PlanRead.{PlanRead}
+use Rattle.image.specs.Answered.{PlanRead}
 use Rattle.bits.specs.Bits.{number, unpacked, padding}
 
 -- what was read, the bits left and the number of the first of them; or a refusal
@@ -28,12 +28,12 @@ and_then (stopped v) f = stopped v
 
 -- a verdict between two fields
 abbrev pub unless_fault : {A : Type 0} → Verdict → Parsed A → Parsed A
-unless_fault Fine p = p
-unless_fault (Refused r) p = stopped r
+unless_fault (Ok tt) p = p
+unless_fault (Err r) p = stopped r
 
 -- a field of so many bits; 60: bits run out
 abbrev pub ran_out : ℕ → Refusal
-ran_out place = record { number = 60; place = place }
+ran_out place = record { rule = rule_of 60; place = place }
 
 unfoldable pub field : ℕ → List ℕ → ℕ → Parsed ℕ
 field w l at = cond (ltb (length l) w) (stopped (ran_out (at / 8))) (met (number (take w l)) (drop w l) (at + w))
@@ -107,8 +107,8 @@ parsed l = and_then (fields l 0) (λ p l' at. unless_fault (or_else (end_fault l
 
 -- the answer: the plan, or the refusal and the empty plan
 abbrev pub read_as : Parsed Plan → PlanRead
-read_as (met p l at) = record { verdict = Fine; plan = p }
-read_as (stopped r) = record { verdict = Refused r; plan = empty_plan }
+read_as (met p l at) = record { verdict = Ok tt; plan = p }
+read_as (stopped r) = record { verdict = Err r; plan = empty_plan }
 
 unfoldable pub plan_read_of : List ℕ → PlanRead
 plan_read_of bytes = read_as (parsed (unpacked bytes))

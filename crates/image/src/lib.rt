@@ -2,23 +2,6 @@
 // `image_read`.
 #![tactic(auto)]
 
-use plan::Plan;
-use refusal::Verdict;
-
-// Whether the image is refused, and its length.
-#[derive(Clone, Copy)]
-pub struct Stored {
-    pub verdict: Verdict,
-    pub length: usize,
-}
-
-// Whether the bytes are refused, and the plan that they say.
-#[derive(Clone, Copy)]
-pub struct PlanRead {
-    pub verdict: Verdict,
-    pub plan: Plan,
-}
-
 // The widths of the fields: the counts of scans, slots and selects; a slot's mark and a word; a code; a slot's number.
 pub const SCAN_COUNT_BITS: usize = 6;
 

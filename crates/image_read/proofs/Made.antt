@@ -5,8 +5,9 @@ use mathlib.Core.List.{List}
 use mathlib.Core.Bool.{cond}
 use borrow.Author.Tests.{eq-eqb, ne_eqb}
 use lib.Dec.{eqb}
+use Rattle.std.specs.Prelude.{Ok, Err}
 use Rattle.refusal.specs.declared.Refusal.{Refusal}
-use Rattle.refusal.specs.Verdict.{refuse_if}
+use Rattle.refusal.specs.Verdict.{refuse_if, rule_of}
 use Rattle.plan.specs.declared.Scan.{Scan}
 use Rattle.plan.specs.declared.SlotRecord.{SlotRecord}
 use Rattle.plan.specs.declared.SlotDefinition.TheVariants.{Constant}
@@ -14,34 +15,32 @@ use Rattle.plan.specs.Codes.{index_of_code, flow_of_code}
 use Rattle.plan.specs.Plan.{variable_slot}
 use Rattle.image.specs.Read.{Parsed, met, and_then, unless_fault, field, code, slot, select, slot_numbered}
 use Rattle.image_read.specs.declared.fields.Cursor.{Cursor}
-use Rattle.image_read.specs.declared.fields.Next.{Next}
-use Rattle.image_read.specs.declared.fields.Next.TheVariants.{At, Stopped}
 use Rattle.image_read.specs.Reads.{bit_of, Within, Reads}
-use Rattle.image_read.proofs.Answered.{byte_of, read-within, read-then, read-stop, read-as}
+use Rattle.image_read.proofs.Answered.{byte_of, read-then, read-stop, read-as}
 
 -- 61: a code 3
 abbrev coded : ℕ → ℕ → List ℕ → ℕ → Parsed ℕ
 coded place n l at = unless_fault (refuse_if (eqb n 3) 61 place) (met n l at)
 
-module _ {b : List ℕ} {c : Cursor} {next : Next} {n : ℕ} (r : Reads (field 2) b c next n) where
-  pub code-stopped : (f : Refusal) → next ≡ Stopped f → Reads code b c next n
+module _ {b : List ℕ} {c : Cursor} where
+  pub code-stopped : {f : Refusal} → Reads (field 2) b c (Err f) → Reads code b c (Err f)
   unfolding code
-  code-stopped f e = let s = read-stop r (coded (bit_of c / 8)) n f e in record { answers = s.answers; within = s.within }
+  code-stopped r = let s = read-stop r (coded (bit_of c / 8)) in record { answers = s.answers; within = tt }
 
-  module _ (d : Cursor) (e : next ≡ At d) where
-    pub code-refused : (m : ℕ) → Within b c → n ≡ 3 → Reads code b c (Stopped (record { number = 61; place = c.byte })) m
+  module _ {n : ℕ} {d : Cursor} (r : Reads (field 2) b c (Ok (n, d))) where
+    pub code-refused : Within b c → n ≡ 3 → Reads code b c (Err (record { rule = rule_of 61; place = c.byte }))
     unfolding code
-    code-refused m h k =
-        let t : Reads (coded (bit_of c / 8) n) b d (Stopped (record { number = 61; place = c.byte })) m = record { answers = rw (eq-eqb n 3 k, byte_of b c h) refl; within = tt } in
-        let s = read-then r (coded (bit_of c / 8)) d e t in
-        record { answers = s.answers; within = s.within }
+    code-refused h k =
+        let t : Reads (coded (bit_of c / 8) n) b d (Err (record { rule = rule_of 61; place = c.byte })) = record { answers = rw (eq-eqb n 3 k, byte_of b c h) refl; within = tt } in
+        let s = read-then r (coded (bit_of c / 8)) t in
+        record { answers = s.answers; within = tt }
 
-    pub code-met : (n ≡ 3 → ⊥) → Reads code b c next n
+    pub code-met : (n ≡ 3 → ⊥) → Reads code b c (Ok (n, d))
     unfolding code
     code-met k =
-        let t : Reads (coded (bit_of c / 8) n) b d (At d) n = record { answers = rw (ne_eqb n 3 k) refl; within = read-within r d e } in
-        let s = read-then r (coded (bit_of c / 8)) d e t in
-        rw e (record { answers = s.answers; within = s.within })
+        let t : Reads (coded (bit_of c / 8) n) b d (Ok (n, d)) = record { answers = rw (ne_eqb n 3 k) refl; within = r.within } in
+        let s = read-then r (coded (bit_of c / 8)) t in
+        record { answers = s.answers; within = s.within }
 
 -- one bit for constant and then 64 bits if it is one
 abbrev constant_behind : List ℕ → ℕ → Parsed SlotRecord
@@ -50,21 +49,35 @@ constant_behind l at = and_then (field 64 l at) (λ v l' at'. met (record { defi
 abbrev flagged : ℕ → List ℕ → ℕ → Parsed SlotRecord
 flagged k l at = cond (eqb k 0) (met variable_slot l at) (constant_behind l at)
 
-module _ {b : List ℕ} {c : Cursor} {next : Next} {k : ℕ} (r : Reads (field 1) b c next k) where
-  pub slot-stopped : (s : SlotRecord) (f : Refusal) → next ≡ Stopped f → Reads slot b c next s
+module _ {b : List ℕ} {c : Cursor} where
+  pub slot-stopped : {f : Refusal} → Reads (field 1) b c (Err f) → Reads slot b c (Err f)
   unfolding slot
-  slot-stopped s f e = read-stop r flagged s f e
+  slot-stopped r = read-stop r flagged
 
-  module _ (d : Cursor) (e : next ≡ At d) where
-    pub slot-variable : k ≡ 0 → Reads slot b c (At d) variable_slot
+  module _ {k : ℕ} {d : Cursor} (r : Reads (field 1) b c (Ok (k, d))) where
+    pub slot-variable : k ≡ 0 → Reads slot b c (Ok (variable_slot, d))
     unfolding slot
-    slot-variable z = read-then r flagged d e (record { answers = rw (eq-eqb k 0 z) refl; within = read-within r d e })
+    slot-variable z =
+        let t : Reads (flagged k) b d (Ok (variable_slot, d)) = record { answers = rw (eq-eqb k 0 z) refl; within = r.within } in
+        read-then r flagged t
 
-    pub slot-constant : (k ≡ 0 → ⊥) → {next' : Next} {v : ℕ} → Reads (field 64) b d next' v → Reads slot b c next' (record { definition = Constant v })
+    pub constant-stopped : (k ≡ 0 → ⊥) → {f : Refusal} → Reads (field 64) b d (Err f) → Reads slot b c (Err f)
     unfolding slot
-    slot-constant z {next'} {v} s =
-        let t : Reads constant_behind b d next' (record { definition = Constant v }) = read-as s (λ (v : ℕ). record { definition = Constant v }) in
-        read-then r flagged d e (record { answers = t.answers ∙ rw (ne_eqb k 0 z) refl; within = t.within })
+    constant-stopped z {f} s =
+        let u : Reads constant_behind b d (Err f) = read-stop s (λ v l' at'. met (record { definition = Constant v }) l' at') in
+        let t : Reads (flagged k) b d (Err f) = record { answers = u.answers ∙ rw (ne_eqb k 0 z) refl; within = tt } in
+        read-then r flagged t
+
+    pub slot-constant : (k ≡ 0 → ⊥) → {v : ℕ} {e : Cursor} → Reads (field 64) b d (Ok (v, e)) → Reads slot b c (Ok (record { definition = Constant v }, e))
+    unfolding slot
+    slot-constant z {v} {e} s =
+        let u : Reads constant_behind b d (Ok (record { definition = Constant v }, e)) = read-as s (λ (v : ℕ). record { definition = Constant v }) in
+        let t : Reads (flagged k) b d (Ok (record { definition = Constant v }, e)) = record { answers = u.answers ∙ rw (ne_eqb k 0 z) refl; within = u.within } in
+        read-then r flagged t
+
+-- what a number is made into
+abbrev pub made_of : {A : Type 0} → (ℕ → A) → ℕ → List ℕ → ℕ → Parsed A
+made_of g n l at = met (g n) l at
 
 -- a scan from its flow on, from its entity, its attribute, its value
 abbrev pub scan_read : ℕ → ℕ → ℕ → ℕ → ℕ → Scan
@@ -82,6 +95,10 @@ from_entity x f l at = and_then (field 7 l at) (from_attribute x f)
 abbrev pub from_flow : ℕ → List ℕ → ℕ → Parsed Scan
 from_flow x l at = and_then (code l at) (from_entity x)
 
-pub select_read : {b : List ℕ} {c : Cursor} {next : Next} {k : ℕ} → Reads (field 7) b c next k → Reads select b c next (slot_numbered k)
+pub select-stopped : {b : List ℕ} {c : Cursor} {f : Refusal} → Reads (field 7) b c (Err f) → Reads select b c (Err f)
+unfolding select
+select-stopped r = read-stop r (λ k l' at'. met (slot_numbered k) l' at')
+
+pub select_read : {b : List ℕ} {c : Cursor} {k : ℕ} {d : Cursor} → Reads (field 7) b c (Ok (k, d)) → Reads select b c (Ok (slot_numbered k, d))
 unfolding select
 select_read r = read-as r slot_numbered

@@ -1,14 +1,14 @@
 -- From the fields to the answer: the counts, the plan behind them, the end and the plan check.
 use mathlib.Core.Path.{◌≡◌, refl, sym, ap, ◌∙◌}
-use Prim.Native.Nat.{ℕ, ◌+◌, ◌-◌, ◌*◌, ◌/◌, ◌%◌, ◌^◌, ◌<◌}
+use Prim.Native.Nat.{ℕ, ◌+◌, ◌/◌, ◌%◌, ◌^◌}
 use mathlib.Core.List.{List}
-use mathlib.Core.Bool.{true, not}
+use mathlib.Core.Bool.{not}
 use native.Mathlib.Omega.{arith}
 use lib.ListN.{length, get_or, take}
 use lib.Dec.{ltb, eqb}
 use Rattle.refusal.specs.declared.Refusal.{Refusal}
-use Rattle.refusal.specs.declared.Verdict.{Verdict}
-use Rattle.refusal.specs.declared.Verdict.TheVariants.{Fine, Refused}
+use Rattle.refusal.specs.Verdict.{Verdict}
+use Rattle.std.specs.Prelude.{Result, Ok, Err}
 use Rattle.refusal.specs.Verdict.{refuse_if, or_else}
 use Rattle.capacity.specs.Capacity.{max_scans, max_slots, max_selects}
 use Rattle.lists.specs.Padded.{padded}
@@ -24,15 +24,9 @@ use Rattle.image.specs.Read.{Parsed, met, stopped, and_then, unless_fault, field
 use Rattle.image.proofs.Places.{end-at}
 use Rattle.image_read.specs.declared.Counts.{Counts}
 use Rattle.image_read.specs.declared.fields.Cursor.{Cursor}
-use Rattle.image_read.specs.declared.fields.Next.{Next}
-use Rattle.image_read.specs.declared.fields.Next.TheVariants.{At, Stopped}
 use Rattle.image_read.specs.Reads.{bit_of, bits_from, Within, Reads, ReadsMany}
 use Rattle.image_read.specs.Plan.{start, counts_read, counted, plan_behind, ReadsCounts}
-use Rattle.image_read.proofs.Answered.{byte_of, read-met, read-stopped, read-within, read-then, read-stop, read-as}
-
--- where reading stops, nothing is said of the counts
-pub counts-stopped : {b : List ℕ} {next : Next} {c : Counts} (f : Refusal) → next ≡ Stopped f → Reads counted b start next c → ReadsCounts b next c
-counts-stopped f e r = record { reads = r; few = λ d k. absurd (let y : ◌≡◌ {A = ℕ} 0 1 = cc in omega arith) }
+use Rattle.image_read.proofs.Answered.{byte_of, read-then, read-stop, read-as}
 
 -- from the slot count on, and from the select count on
 abbrev from_selects : ℕ → ℕ → List ℕ → ℕ → Parsed Counts
@@ -42,48 +36,49 @@ abbrev from_slots : ℕ → List ℕ → ℕ → Parsed Counts
 from_slots n l at = and_then (field 7 l at) (from_selects n)
 
 -- the counts, as far as they are read
-module _ {b : List ℕ} {next : Next} {n : ℕ} (r : Reads (field 6) b start next n) where
-  pub no-scan-count : (x : Counts) (f : Refusal) → next ≡ Stopped f → ReadsCounts b next x
+module _ {b : List ℕ} where
+  stopped-counts : {f : Refusal} → Reads counted b start (Err f) → ReadsCounts b (Err f)
+  stopped-counts r = record { reads = r; few = tt }
+
+  pub no-scan-count : {f : Refusal} → Reads (field 6) b start (Err f) → ReadsCounts b (Err f)
   unfolding counted
-  no-scan-count x f e = counts-stopped f e (read-stop r from_slots x f e)
+  no-scan-count r = stopped-counts (read-stop r from_slots)
 
-  module _ (d : Cursor) (e : next ≡ At d) {next₂ : Next} {m : ℕ} (r₂ : Reads (field 7) b d next₂ m) where
-    pub no-slot-count : (x : Counts) (f : Refusal) → next₂ ≡ Stopped f → ReadsCounts b next₂ x
+  module _ {n : ℕ} {d : Cursor} (r : Reads (field 6) b start (Ok (n, d))) where
+    pub no-slot-count : {f : Refusal} → Reads (field 7) b d (Err f) → ReadsCounts b (Err f)
     unfolding counted
-    no-slot-count x f e₂ = counts-stopped f e₂ (read-then r from_slots d e (read-stop r₂ (from_selects n) x f e₂))
+    no-slot-count r₂ = stopped-counts (read-then r from_slots (read-stop r₂ (from_selects n)))
 
-    module _ (d₂ : Cursor) (e₂ : next₂ ≡ At d₂) {next₃ : Next} {k : ℕ} (r₃ : Reads (field 6) b d₂ next₃ k) where
-      from-select-count : {next₄ : Next} {x : Counts} → Reads (from_selects n m) b d₂ next₄ x → Reads counted b start next₄ x
+    module _ {m : ℕ} {d₂ : Cursor} (r₂ : Reads (field 7) b d (Ok (m, d₂))) where
+      from-select-count : {out : Result (Counts × Cursor) Refusal} → Reads (from_selects n m) b d₂ out → Reads counted b start out
       unfolding counted
-      from-select-count s = read-then r from_slots d e (read-then r₂ (from_selects n) d₂ e₂ s)
+      from-select-count s = read-then r from_slots (read-then r₂ (from_selects n) s)
 
       abbrev checked : ℕ → List ℕ → ℕ → Parsed Counts
       checked k l at = unless_fault (counts_fault n m k) (met (counts_read n m k) l at)
 
-      pub no-select-count : (x : Counts) (f : Refusal) → next₃ ≡ Stopped f → ReadsCounts b next₃ x
-      no-select-count x f e₃ = counts-stopped f e₃ (from-select-count (read-stop r₃ checked x f e₃))
+      pub no-select-count : {f : Refusal} → Reads (field 6) b d₂ (Err f) → ReadsCounts b (Err f)
+      no-select-count r₃ = stopped-counts (from-select-count (read-stop r₃ checked))
 
-      module _ (d₃ : Cursor) (e₃ : next₃ ≡ At d₃) where
-        pub counts-refused : (x : Counts) (f : Refusal) → counts_fault n m k ≡ Refused f → ReadsCounts b (Stopped f) x
-        counts-refused x f v =
-            let s : Reads (checked k) b d₃ (Stopped f) x = record { answers = rw v refl; within = tt } in
-            counts-stopped f refl (from-select-count (read-then r₃ checked d₃ e₃ s))
+      module _ {k : ℕ} {d₃ : Cursor} (r₃ : Reads (field 6) b d₂ (Ok (k, d₃))) where
+        pub counts-refused : {f : Refusal} → counts_fault n m k ≡ Err f → ReadsCounts b (Err f)
+        counts-refused {f} v =
+            let s : Reads (checked k) b d₃ (Err f) = record { answers = rw v refl; within = tt } in
+            stopped-counts (from-select-count (read-then r₃ checked s))
 
-        pub counts-met : counts_fault n m k ≡ Fine → ReadsCounts b next₃ (counts_read n m k)
+        pub counts-met : counts_fault n m k ≡ Ok tt → ReadsCounts b (Ok (counts_read n m k, d₃))
         counts-met v =
-            let s : Reads (checked k) b d₃ (At d₃) (counts_read n m k) = record { answers = rw v refl; within = read-within r₃ d₃ e₃ } in
-            record { reads = rw e₃ (from-select-count (read-then r₃ checked d₃ e₃ s)); few = λ d h. counts-fine n m k v }
+            let s : Reads (checked k) b d₃ (Ok (counts_read n m k, d₃)) = record { answers = rw v refl; within = r₃.within } in
+            record { reads = from-select-count (read-then r₃ checked s); few = counts-fine n m k v }
 
 -- an array, and what is made of it
-pub array-as : {A B : Type 0} {p : List ℕ → ℕ → Parsed A} {z : A} {room n : ℕ} {b : List ℕ} {c : Cursor} {next : Next} {items : List A}
-    → ReadsMany p z room n b c next items → (g : List A → B) → Reads (λ l at. and_then (many p n l at) (λ xs l' at'. met (g (padded z room xs)) l' at')) b c next (g items)
-array-as {A = A} {B = B} {p = p} {z = z} {room = room} {n = n} {b = b} {c = c} {next = next} {items = items} r g = go next refl
-  where
-    go : (m : Next) → next ≡ m → Reads (λ l at. and_then (many p n l at) (λ xs l' at'. met (g (padded z room xs)) l' at')) b c next (g items)
-    go (At d) e =
-        let s = read-as r.reads (λ (xs : List A). g (padded z room xs)) in
-        let f : g (padded z room (take n items)) ≡ g items = ap g (sym (r.filled d e)) in rw f at s
-    go (Stopped f) e = read-stop r.reads (λ xs l' at'. met (g (padded z room xs)) l' at') (g items) f e
+pub array-as : {A B : Type 0} {p : List ℕ → ℕ → Parsed A} {z : A} {room n : ℕ} {b : List ℕ} {c : Cursor} {items : List A} {d : Cursor}
+    → ReadsMany p z room n b c (Ok (items, d)) → (g : List A → B)
+    → Reads (λ l at. and_then (many p n l at) (λ xs l' at'. met (g (padded z room xs)) l' at')) b c (Ok (g items, d))
+array-as {A = A} {z = z} {room = room} {n = n} {items = items} r g =
+    let s = read-as r.reads (λ (xs : List A). g (padded z room xs)) in
+    let f : g (padded z room (take n items)) ≡ g items = ap g (sym r.filled) in
+    rw f at s
 
 -- from the scans on, and from the selects on
 abbrev from_selected : Counts → List SlotRecord → List Scan → List ℕ → ℕ → Parsed Plan
@@ -93,30 +88,37 @@ abbrev from_scans : Counts → List SlotRecord → List ℕ → ℕ → Parsed P
 from_scans c ss l at = and_then (many scan c.scans l at) (from_selected c ss)
 
 -- the plan behind the counts, as far as it is read
-module _ (c : Counts) {b : List ℕ} {at : Cursor} {next : Next} {ss : List SlotRecord} (r : ReadsMany slot variable_slot max_slots c.slots b at next ss) where
-  pub no-slots : (p : Plan) (f : Refusal) → next ≡ Stopped f → Reads (plan_behind c) b at next p
+module _ (c : Counts) {b : List ℕ} {at : Cursor} where
+  pub no-slots : {f : Refusal} → ReadsMany slot variable_slot max_slots c.slots b at (Err f) → Reads (plan_behind c) b at (Err f)
   unfolding plan_behind
-  no-slots p f e = read-stop r.reads (from_scans c) p f e
+  no-slots r = read-stop r.reads (from_scans c)
 
-  module _ (d : Cursor) (e : next ≡ At d) {next₂ : Next} {xs : List Scan} (r₂ : ReadsMany scan zero_scan max_scans c.scans b d next₂ xs) where
-    pub no-scans : (p : Plan) (f : Refusal) → next₂ ≡ Stopped f → Reads (plan_behind c) b at next₂ p
+  module _ {ss : List SlotRecord} {d : Cursor} (r : ReadsMany slot variable_slot max_slots c.slots b at (Ok (ss, d))) where
+    pub no-scans : {f : Refusal} → ReadsMany scan zero_scan max_scans c.scans b d (Err f) → Reads (plan_behind c) b at (Err f)
     unfolding plan_behind
-    no-scans p f e₂ = read-then r.reads (from_scans c) d e (read-stop r₂.reads (from_selected c (take c.slots ss)) p f e₂)
+    no-scans r₂ = read-then r.reads (from_scans c) (read-stop r₂.reads (from_selected c (take c.slots ss)))
 
-    pub plan-read : (d₂ : Cursor) → next₂ ≡ At d₂ → {next₃ : Next} {ks : List Slot} → ReadsMany select zero_slot max_selects c.selects b d₂ next₃ ks
-        → Reads (plan_behind c) b at next₃ (record { scans = xs; scan_count = c.scans; slots = ss; slot_count = c.slots; select = ks; select_count = c.selects })
-    unfolding plan_behind
-    plan-read d₂ e₂ {next₃ = next₃} {ks = ks} r₃ =
-        let g : List Slot → Plan = λ ks. record {
-          scans = padded zero_scan max_scans (take c.scans xs);
-          scan_count = c.scans;
-          slots = padded variable_slot max_slots (take c.slots ss);
-          slot_count = c.slots;
-          select = ks;
-          select_count = c.selects;
-        } in
-        let s = read-then r.reads (from_scans c) d e (read-then r₂.reads (from_selected c (take c.slots ss)) d₂ e₂ (array-as r₃ g)) in
-        rw (← (r.filled d e), ← (r₂.filled d₂ e₂)) at s
+    module _ {xs : List Scan} {d₂ : Cursor} (r₂ : ReadsMany scan zero_scan max_scans c.scans b d (Ok (xs, d₂))) where
+      pub no-selects : {f : Refusal} → ReadsMany select zero_slot max_selects c.selects b d₂ (Err f) → Reads (plan_behind c) b at (Err f)
+      unfolding plan_behind
+      no-selects r₃ =
+          read-then r.reads (from_scans c) (read-then r₂.reads (from_selected c (take c.slots ss))
+          (read-stop r₃.reads (λ ks l' at'. met (plan_read c.scans c.slots c.selects (take c.slots ss) (take c.scans xs) ks) l' at')))
+
+      pub plan-read : {ks : List Slot} {d₃ : Cursor} → ReadsMany select zero_slot max_selects c.selects b d₂ (Ok (ks, d₃))
+          → Reads (plan_behind c) b at (Ok (record { scans = xs; scan_count = c.scans; slots = ss; slot_count = c.slots; select = ks; select_count = c.selects }, d₃))
+      unfolding plan_behind
+      plan-read r₃ =
+          let g : List Slot → Plan = λ ks. record {
+            scans = padded zero_scan max_scans (take c.scans xs);
+            scan_count = c.scans;
+            slots = padded variable_slot max_slots (take c.slots ss);
+            slot_count = c.slots;
+            select = ks;
+            select_count = c.selects;
+          } in
+          let s = read-then r.reads (from_scans c) (read-then r₂.reads (from_selected c (take c.slots ss)) (array-as r₃ g)) in
+          rw (← r.filled, ← r₂.filled) at s
 
 -- the fields in two parts
 module _ {A B C : Type 0} where
@@ -126,8 +128,8 @@ module _ {A B C : Type 0} where
   then-then (stopped v) f g = refl
 
 unless-then : {A B : Type 0} (v : Verdict) (r : Parsed A) (g : A → List ℕ → ℕ → Parsed B) → and_then (unless_fault v r) g ≡ unless_fault v (and_then r g)
-unless-then Fine r g = refl
-unless-then (Refused f) r g = refl
+unless-then (Ok tt) r g = refl
+unless-then (Err f) r g = refl
 
 pub fields-parted : (l : List ℕ) (at : ℕ) → and_then (counted l at) plan_behind ≡ fields l at
 unfolding counted plan_behind fields
@@ -143,26 +145,17 @@ end_is b c h =
     let e : (bit_of c + padding (bit_of c)) / 8 ≡ c.byte + (c.bit + 7) / 8 = omega arith in
     end-at (bit_of c) b h.in_bytes ∙ rw (byte_of b c h, e) refl
 
--- no bit is left of a byte that has not begun, and those behind the last field of one that has
-pub pad-none : (x byte bit : ℕ) → bit ≡ 0 → true ≡ eqb (x % 2 ^ padding (8 * byte + bit)) 0
-pad-none x byte bit h =
-    let e : padding (8 * byte + bit) ≡ 0 = omega arith in
-    let z : x % 1 ≡ 0 = omega arith in
-    rw (e, z) refl
-
-pub pad-some : (byte bit : ℕ) → bit < 8 → (bit ≡ 0 → ⊥) → padding (8 * byte + bit) ≡ 8 - bit
-pad-some byte bit h k = omega arith
-
 -- the answer
-module _ {b : List ℕ} {next : Next} {p : Plan} (r : Reads fields b start next p) where
-  pub image-stopped : (f : Refusal) → next ≡ Stopped f → plan_read_of b ≡ read_as (stopped f)
+module _ {b : List ℕ} where
+  pub image-stopped : {f : Refusal} → Reads fields b start (Err f) → plan_read_of b ≡ read_as (stopped f)
   unfolding plan_read_of parsed
-  image-stopped f e = rw (read-stopped r f e) refl
+  image-stopped r = rw (sym r.answers) refl
 
-  pub image-refused : (d : Cursor) (f : Refusal) → next ≡ At d → or_else (end_fault (bits_from b d) (bit_of d)) (check_of p) ≡ Refused f → plan_read_of b ≡ read_as (stopped f)
-  unfolding plan_read_of parsed
-  image-refused d f e v = rw (read-met r d e, v) refl
+  module _ {p : Plan} {d : Cursor} (r : Reads fields b start (Ok (p, d))) where
+    pub image-refused : {f : Refusal} → or_else (end_fault (bits_from b d) (bit_of d)) (check_of p) ≡ Err f → plan_read_of b ≡ read_as (stopped f)
+    unfolding plan_read_of parsed
+    image-refused v = rw (sym r.answers, v) refl
 
-  pub image-fine : (d : Cursor) → next ≡ At d → or_else (end_fault (bits_from b d) (bit_of d)) (check_of p) ≡ Fine → plan_read_of b ≡ record { verdict = Fine; plan = p }
-  unfolding plan_read_of parsed
-  image-fine d e v = rw (read-met r d e, v) refl
+    pub image-fine : or_else (end_fault (bits_from b d) (bit_of d)) (check_of p) ≡ Ok tt → plan_read_of b ≡ record { verdict = Ok tt; plan = p }
+    unfolding plan_read_of parsed
+    image-fine v = rw (sym r.answers, v) refl

@@ -1,12 +1,11 @@
 -- The fields of a plan in two parts: the three counts, and what stands behind them.
-use Rattle.std.specs.Prelude.{◌≡◌, ℕ, List}
+use Rattle.std.specs.Prelude.{ℕ, List, Result, Ok, Err}
+use Rattle.refusal.specs.declared.Refusal.{Refusal}
 use Rattle.plan.specs.declared.Plan.{Plan}
 use Rattle.plan.specs.Plan.{counts_fault, Counted}
 use Rattle.image.specs.Read.{Parsed, met, and_then, unless_fault, field, slot, scan, select, many, plan_read}
 use Rattle.image_read.specs.declared.Counts.{Counts}
 use Rattle.image_read.specs.declared.fields.Cursor.{Cursor}
-use Rattle.image_read.specs.declared.fields.Next.{Next}
-use Rattle.image_read.specs.declared.fields.Next.TheVariants.{At}
 use Rattle.image_read.specs.Reads.{Reads}
 
 -- where an image begins
@@ -32,7 +31,12 @@ plan_behind c l₃ at₃ =
     and_then (many select c.selects l₅ at₅) (λ ks l₆ at₆.
     met (plan_read c.scans c.slots c.selects ss xs ks) l₆ at₆)))
 
--- an answer is what the counts say; where reading goes on they are within the capacities
-pub record ReadsCounts (bytes : List ℕ) (next : Next) (c : Counts) : Type 0 where
-  pub reads : Reads counted bytes start next c
-  pub few : (d : Cursor) → next ≡ At d → Counted c.scans c.slots c.selects
+-- where reading goes on the counts are within the capacities
+abbrev pub FewCounts : Result (Counts × Cursor) Refusal → Type 0
+FewCounts (Ok r) = Counted r.0.scans r.0.slots r.0.selects
+FewCounts (Err r) = Unit {0}
+
+-- an answer is what the counts say, within the capacities
+pub record ReadsCounts (bytes : List ℕ) (out : Result (Counts × Cursor) Refusal) : Type 0 where
+  pub reads : Reads counted bytes start out
+  pub few : FewCounts out

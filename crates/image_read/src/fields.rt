@@ -3,7 +3,7 @@ ghost use Rattle.std.specs.Prelude.{◌≡◌, ◌+◌, ◌*◌, ◌/◌, ◌^�
 ghost use Rattle.bits.specs.Bits.{number as Bits·number, unpacked};
 ghost use Rattle.image_read.specs.Reads.{bit_of, bits_from, Within, Moved, BitsThere, ReadsField};
 
-use refusal::Refusal;
+use refusal::{Refusal, Rule, refuse};
 
 pub(crate) const BYTE_BITS: usize = 8;
 
@@ -17,46 +17,15 @@ pub(crate) struct Cursor {
     pub(crate) bit: usize,
 }
 
-// What follows what was read: where the next field begins, or why reading stops.
-#[derive(Clone, Copy)]
-pub(crate) enum Next {
-    At(Cursor),
-    Stopped(Refusal),
-}
-
-// A field's number, which says nothing where reading stops.
-#[derive(Clone, Copy)]
-pub(crate) struct Field {
-    pub(crate) number: u64,
-    pub(crate) next: Next,
-}
-
-// Read a field of so many bits. 60: bits run out.
-pub(crate) fn read_field(bytes: &[u8], at: Cursor, width: usize) -> Field
+// Read a field of so many bits: its number, and where the next field begins. 60: bits run out.
+pub(crate) fn read_field(bytes: &[u8], at: Cursor, width: usize) -> Result<(u64, Cursor), Refusal>
     requires { Within bytes.now at × (width ≤ 64) }
-    ensures { ReadsField width bytes.now at result.next result.number }
+    ensures { ReadsField width bytes.now at result }
 {
     if runs_out(bytes.len(), at, width) {
-        return Field {
-            number: 0,
-            next: stop(refusal::BITS_RUN_OUT, at),
-        };
+        return refuse(Rule::BitsRunOut, at.byte);
     }
-    let behind = later(at, width);
-    Field {
-        number: bits_at(bytes, at, width),
-        next: Next::At(behind),
-    }
-}
-
-// A refusal where a field begins: its place is the byte.
-pub(crate) fn stop(number: u8, at: Cursor) -> Next
-    ensures { result ≡ Next.Stopped (record { number = number; place = at.byte }) }
-{
-    Next::Stopped(Refusal {
-        number,
-        place: at.byte,
-    })
+    Ok((bits_at(bytes, at, width), later(at, width)))
 }
 
 // Whether fewer bits are left than a field has. The bytes that it lies in are counted: eight times the length may be no u64.
@@ -72,7 +41,7 @@ pub(crate) fn bytes_of(bits: usize) -> usize
     requires { bits < 128 }
     ensures { result ≡ (bits + 7) / 8 }
 {
-    (bits + BYTE_BITS - 1) / BYTE_BITS
+    bits.div_ceil(BYTE_BITS)
 }
 
 // So many bits further on.
@@ -118,19 +87,11 @@ fn bytes_at(bytes: &[u8], from: usize, count: usize) -> u64
     requires { (from + count ≤ length bytes.now) × (count ≤ 8) }
     ensures { result ≡ Bits·number (take (8 * count) (drop (8 * from) (unpacked bytes.now))) }
 {
-    let mut value: u64 = 0;
-    let mut i = 0;
-    while i < count {
-        value = value * 256 + wide(bytes[from + i]);
-        i += 1;
+    let mut value = 0;
+    for i in 0..count {
+        value = value * 256 + u64::from(bytes[from + i]);
     }
     value
-}
-
-pub(crate) fn wide(byte: u8) -> u64
-    ensures { (result ≡ byte) × (result < 256) }
-{
-    byte as u64
 }
 
 // Two to the n.

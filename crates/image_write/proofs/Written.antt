@@ -7,9 +7,8 @@ use borrow.Author.Tests.{lt-ltb, le-ltb}
 use lib.ListN.{length, drop}
 use lib.Seq.{length-take-le}
 use Rattle.refusal.specs.declared.Refusal.{Refusal}
-use Rattle.refusal.specs.declared.Verdict.{Verdict}
-use Rattle.refusal.specs.declared.Verdict.TheVariants.{Fine, Refused}
-use Rattle.refusal.specs.Verdict.{refused}
+use Rattle.std.specs.Prelude.{Result, Ok, Err}
+use Rattle.refusal.specs.Verdict.{answer, rule_of}
 use Rattle.refusal.proofs.Fine.{or-fine}
 use Rattle.lists.specs.Laid.{laid}
 use Rattle.plan.specs.declared.Plan.{Plan}
@@ -18,7 +17,6 @@ use Rattle.plan.proofs.Counts.{counts-fine}
 use Rattle.plan_check.specs.Check.{check_of}
 use Rattle.bits.specs.Bits.{bits, bits_over}
 use Rattle.bits.proofs.Over.{over-all}
-use Rattle.image.specs.declared.Stored.{Stored}
 use Rattle.image.specs.Image.{slot_bits, scan_bits, select_bits, plan_bits, image_of, image_fault, image_after, stored_of}
 use Rattle.image.proofs.Below.{counts-below, slots-below, scans-below, selects-below}
 use Rattle.image.proofs.Length.{plan-bits, image-bytes, scan-length}
@@ -26,7 +24,7 @@ use Rattle.image_write.proofs.Fields.{Drawn, drawn-then}
 use Rattle.image_write.proofs.Slots.{slots-most, laid-front}
 
 -- a plan that passed the check has counts within the capacities
-pub counted : (p : Plan) → check_of p ≡ Fine → Counted p.scan_count p.slot_count p.select_count
+pub counted : (p : Plan) → check_of p ≡ Ok tt → Counted p.scan_count p.slot_count p.select_count
 unfolding check_of
 counted p e = counts-fine _ _ _ (or-fine (counts_fault p.scan_count p.slot_count p.select_count) _ e).0
 
@@ -60,20 +58,22 @@ module _ (p : Plan) (full : Filled p) (few : Counted p.scan_count p.slot_count p
 
 module _ (p : Plan) (l : List ℕ) where
   -- the plan check refuses
-  pub check-refuses : (v : Verdict) (r : Refusal) → v ≡ check_of p → v ≡ Refused r → (◌≡◌ {A = Stored} (record { verdict = v; length = 0 }) (stored_of p (length l))) × (l ≡ image_after p l)
+  pub check-refuses : (r : Refusal) → Err r ≡ check_of p → (◌≡◌ {A = Result ℕ Refusal} (Err r) (answer (stored_of p (length l)).verdict (stored_of p (length l)).length)) × (l ≡ image_after p l)
   unfolding image_fault stored_of image_after
-  check-refuses v r e f = let g = sym e ∙ f in (simp (g, f), simp g)
+  check-refuses r e = let g = sym e in (simp g, simp g)
 
-  module _ (fine : check_of p ≡ Fine) (n : ℕ) (long : n ≡ length (image_of p)) where
+  module _ (fine : check_of p ≡ Ok tt) (n : ℕ) (long : n ≡ length (image_of p)) where
     -- the buffer is short
-    pub buffer-short : (v : Verdict) → length l < n → v ≡ refused 64 0 → (◌≡◌ {A = Stored} (record { verdict = v; length = 0 }) (stored_of p (length l))) × (l ≡ image_after p l)
+    pub buffer-short : length l < n
+        → (◌≡◌ {A = Result ℕ Refusal} (Err (record { rule = rule_of 64; place = 0 })) (answer (stored_of p (length l)).verdict (stored_of p (length l)).length)) × (l ≡ image_after p l)
     unfolding image_fault stored_of image_after
-    buffer-short v h e =
+    buffer-short h =
         let short : length l < length (image_of p) = omega (arith, long) in
-        (simp (fine, lt-ltb _ _ short, e), simp (fine, lt-ltb _ _ short))
+        (simp (fine, lt-ltb _ _ short), simp (fine, lt-ltb _ _ short))
 
     -- it is not, and the image is written
-    pub image-written : (l' : List ℕ) → n ≤ length l → l' ≡ bits_over l 0 (plan_bits p) → (◌≡◌ {A = Stored} (record { verdict = Fine; length = n }) (stored_of p (length l))) × (l' ≡ image_after p l)
+    pub image-written : (l' : List ℕ) → n ≤ length l → l' ≡ bits_over l 0 (plan_bits p)
+        → (◌≡◌ {A = Result ℕ Refusal} (Ok n) (answer (stored_of p (length l)).verdict (stored_of p (length l)).length)) × (l' ≡ image_after p l)
     unfolding image_fault stored_of image_after
     image-written l' h e =
         let fits : length (image_of p) ≤ length l = omega (arith, long) in

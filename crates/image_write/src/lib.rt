@@ -2,6 +2,7 @@
 #![tactic(auto)]
 
 ghost use Rattle.std.specs.Prelude.{◌≡◌, ◌++◌, ◌+◌, ◌*◌, ◌^◌, ◌≤◌, ◌<◌, length, take};
+ghost use Rattle.refusal.specs.Verdict.{answer};
 ghost use Rattle.capacity.specs.Capacity.{max_scans, max_slots, max_selects};
 ghost use Rattle.lists.specs.Laid.{laid};
 ghost use Rattle.plan.specs.declared.SlotDefinition.TheVariants.{Constant};
@@ -10,39 +11,25 @@ ghost use Rattle.bits.specs.Bits.{bits, bits_over};
 ghost use Rattle.image.specs.Image.{definition_bits, slot_bits, scan_bits, select_bits, plan_bits, image_of, image_after, stored_of};
 
 use bits::write_bits;
-use capacity::{MAX_SCANS, MAX_SELECTS, MAX_SLOTS};
 use image::{
     CODE_BITS, COUNTS_BITS, MARK_BITS, SCAN_BITS, SCAN_COUNT_BITS, SELECT_COUNT_BITS, SLOT_BITS,
-    SLOT_COUNT_BITS, Stored, WORD_BITS,
+    SLOT_COUNT_BITS, WORD_BITS,
 };
 use plan::{Plan, Scan, Slot, SlotDefinition, SlotRecord};
-use refusal::{Verdict, refuse};
+use refusal::{Refusal, Rule, refuse};
 
 // Write the image of a plan to the front of a buffer. On a refusal the buffer stays as it is.
-pub fn write_image(plan: Plan, out: &mut [u8]) -> Stored
-    ensures value { result ≡ stored_of plan (length out.old) }
+pub fn write_image(plan: Plan, out: &mut [u8]) -> Result<usize, Refusal>
+    ensures value { let said = stored_of plan (length out.old) in result ≡ answer said.verdict said.length }
     ensures out_after { out.new ≡ image_after plan out.old }
 {
-    let checked = plan_check::check_invariants(plan);
-    if let Verdict::Refused(_) = checked {
-        return Stored {
-            verdict: checked,
-            length: 0,
-        };
-    }
+    plan_check::check_invariants(plan)?;
     let length = image_length(plan);
     if out.len() < length {
-        let no_room = refuse(refusal::NO_ROOM_FOR_IMAGE, 0);
-        return Stored {
-            verdict: no_room,
-            length: 0,
-        };
+        return refuse(Rule::NoRoomForImage, 0);
     }
     write_plan(plan, out);
-    Stored {
-        verdict: Verdict::Fine,
-        length: length,
-    }
+    Ok(length)
 }
 
 // The length of an image: its bits, to the next byte.
@@ -50,27 +37,21 @@ fn image_length(plan: Plan) -> usize
     requires { Counted plan.scan_count plan.slot_count plan.select_count }
     ensures { result ≡ length (image_of plan) }
 {
-    let slots = plan.slots;
-    let slots_bits = count_slots(slots, plan.slot_count);
     let bits = COUNTS_BITS
-        + slots_bits
+        + count_slots(&plan.slots[..plan.slot_count])
         + SCAN_BITS * plan.scan_count
         + SLOT_BITS * plan.select_count;
-    (bits + 7) / 8
+    bits.div_ceil(8)
 }
 
 // How many bits the slots take.
-fn count_slots(slots: [SlotRecord; MAX_SLOTS], slot_count: usize) -> usize
-    requires { slot_count ≤ max_slots }
-    ensures { result ≡ length (laid slot_bits (take slot_count slots)) }
+fn count_slots(slots: &[SlotRecord]) -> usize
+    requires { length slots.now ≤ max_slots }
+    ensures { result ≡ length (laid slot_bits slots.now) }
 {
     let mut count = 0;
-    let mut i_slot = 0;
-    while i_slot < slot_count {
-        let record = slots[i_slot];
-        let definition = record.definition;
-        count += count_slot(definition);
-        i_slot += 1;
+    for slot in slots {
+        count += count_slot(slot.definition);
     }
     count
 }
@@ -90,14 +71,11 @@ fn write_plan(plan: Plan, out: &mut [u8])
     requires { Counted plan.scan_count plan.slot_count plan.select_count }
     ensures { out.new ≡ bits_over out.old 0 (plan_bits plan) }
 {
-    let slots = plan.slots;
-    let scans = plan.scans;
-    let select = plan.select;
-    let scan_count = plan.scan_count;
-    write_counts(scan_count, plan.slot_count, plan.select_count, out);
-    let at = write_slots(slots, plan.slot_count, COUNTS_BITS, out);
-    write_scans(scans, scan_count, at, out);
-    write_selects(select, plan.select_count, at + SCAN_BITS * scan_count, out);
+    write_counts(plan.scan_count, plan.slot_count, plan.select_count, out);
+    let scans_at = write_slots(&plan.slots[..plan.slot_count], COUNTS_BITS, out);
+    write_scans(&plan.scans[..plan.scan_count], scans_at, out);
+    let selects_at = scans_at + SCAN_BITS * plan.scan_count;
+    write_selects(&plan.select[..plan.select_count], selects_at, out);
 }
 
 // The three counts, from the first bit on.
@@ -115,24 +93,15 @@ fn write_counts(scan_count: usize, slot_count: usize, select_count: usize, out: 
 }
 
 // The slots; it answers the bit behind them.
-fn write_slots(
-    slots: [SlotRecord; MAX_SLOTS],
-    slot_count: usize,
-    start: usize,
-    out: &mut [u8],
-) -> usize
-    requires { (slot_count ≤ max_slots) × (start + 65 * slot_count < 2 ^ 64) }
-    ensures value { result ≡ start + length (laid slot_bits (take slot_count slots)) }
-    ensures out_after { out.new ≡ bits_over out.old start (laid slot_bits (take slot_count slots)) }
+fn write_slots(slots: &[SlotRecord], start: usize, out: &mut [u8]) -> usize
+    requires { (length slots.now ≤ max_slots) × (start + 65 * length slots.now < 2 ^ 64) }
+    ensures value { result ≡ start + length (laid slot_bits slots.now) }
+    ensures out_after { out.new ≡ bits_over out.old start (laid slot_bits slots.now) }
 {
     let mut at = start;
-    let mut i_slot = 0;
-    while i_slot < slot_count {
-        let record = slots[i_slot];
-        let definition = record.definition;
-        write_definition(definition, at, out);
-        at += count_slot(definition);
-        i_slot += 1;
+    for slot in slots {
+        write_definition(slot.definition, at, out);
+        at += count_slot(slot.definition);
     }
     at
 }
@@ -157,15 +126,12 @@ fn write_constant(value: u64, at: usize, out: &mut [u8])
 }
 
 // The scans, in scan order.
-fn write_scans(scans: [Scan; MAX_SCANS], scan_count: usize, start: usize, out: &mut [u8])
-    requires { (scan_count ≤ max_scans) × (start + 82 * scan_count < 2 ^ 64) }
-    ensures { out.new ≡ bits_over out.old start (laid scan_bits (take scan_count scans)) }
+fn write_scans(scans: &[Scan], start: usize, out: &mut [u8])
+    requires { (length scans.now ≤ max_scans) × (start + 82 * length scans.now < 2 ^ 64) }
+    ensures { out.new ≡ bits_over out.old start (laid scan_bits scans.now) }
 {
-    let mut i_scan = 0;
-    while i_scan < scan_count {
-        let scan = scans[i_scan];
-        write_scan(scan, start + SCAN_BITS * i_scan, out);
-        i_scan += 1;
+    for (i_scan, scan) in scans.iter().enumerate() {
+        write_scan(*scan, start + SCAN_BITS * i_scan, out);
     }
 }
 
@@ -174,26 +140,26 @@ fn write_scan(scan: Scan, at: usize, out: &mut [u8])
     requires { at + 82 < 2 ^ 64 }
     ensures { out.new ≡ bits_over out.old at (scan_bits scan) }
 {
-    let index = scan.index;
-    let flow = scan.flow;
     let entity = at + CODE_BITS + CODE_BITS;
     let attribute = entity + SLOT_BITS;
-    write_bits(plan::index_code(index), CODE_BITS, at, out);
-    write_bits(plan::flow_code(flow), CODE_BITS, at + CODE_BITS, out);
-    write_bits(scan.entity.0 as u64, SLOT_BITS, entity, out);
+    write_bits(plan::index_code(scan.index), CODE_BITS, at, out);
+    write_bits(plan::flow_code(scan.flow), CODE_BITS, at + CODE_BITS, out);
+    write_bits(u64::from(scan.entity.0), SLOT_BITS, entity, out);
     write_bits(scan.attribute.0, WORD_BITS, attribute, out);
-    write_bits(scan.value.0 as u64, SLOT_BITS, attribute + WORD_BITS, out);
+    write_bits(
+        u64::from(scan.value.0),
+        SLOT_BITS,
+        attribute + WORD_BITS,
+        out,
+    );
 }
 
 // The selects, in select order.
-fn write_selects(select: [Slot; MAX_SELECTS], select_count: usize, start: usize, out: &mut [u8])
-    requires { (select_count ≤ max_selects) × (start + 7 * select_count < 2 ^ 64) }
-    ensures { out.new ≡ bits_over out.old start (laid select_bits (take select_count select)) }
+fn write_selects(select: &[Slot], start: usize, out: &mut [u8])
+    requires { (length select.now ≤ max_selects) × (start + 7 * length select.now < 2 ^ 64) }
+    ensures { out.new ≡ bits_over out.old start (laid select_bits select.now) }
 {
-    let mut i = 0;
-    while i < select_count {
-        let slot = select[i];
-        write_bits(slot.0 as u64, SLOT_BITS, start + SLOT_BITS * i, out);
-        i += 1;
+    for (i, slot) in select.iter().enumerate() {
+        write_bits(u64::from(slot.0), SLOT_BITS, start + SLOT_BITS * i, out);
     }
 }

@@ -8,7 +8,7 @@ use borrow.Author.Tests.{ltb-true, ltb-false}
 use lib.ListN.{length, get_or, drop, take-append-drop, drop_of_length-le}
 use lib.Seq.{drop_at, take_at, take_all, length-take-le}
 use lib.Dec.{ltb}
-use Rattle.refusal.specs.declared.Verdict.TheVariants.{Fine}
+use Rattle.std.specs.Prelude.{Ok}
 use Rattle.refusal.proofs.Fine.{or-fine}
 use Rattle.refusal.proofs.First.{each-passes}
 use Rattle.plan.specs.declared.Scan.{Scan}
@@ -48,14 +48,14 @@ abbrev pub plan_at : Plan → ℕ → Plan
 plan_at p t = with_scans p (get_or (combinations (scans_of p)) t [])
 
 -- none of them is out-out over eavt
-pub same-flows : {ss ts : List Scan} → SameScans ss ts → (i : ℕ) → out_out_fault ts i ≡ Fine
+pub same-flows : {ss ts : List Scan} → SameScans ss ts → (i : ℕ) → out_out_fault ts i ≡ Ok tt
 unfolding out_out_fault
 same-flows {ts = ts} b i = (each-passes _ _ zero_scan i ts).1 (λ j h. (same_at b zero_scan j h).not_out_out_eavt)
 
-module _ (p : Plan) (fits : p.scan_count ≤ length p.scans) (fine : flows_fault p ≡ Fine) where
+module _ (p : Plan) (fits : p.scan_count ≤ length p.scans) (fine : flows_fault p ≡ Ok tt) where
   -- the plan with other scans of the same cycles
   next-same : (l : List Scan) → SameScans (scans_of p) l
-      → next_plan_of (with_scans p l) ≡ record { verdict = Fine; is_new = is_new_scans l; plan = with_scans p (next_scans l) }
+      → next_plan_of (with_scans p l) ≡ record { verdict = Ok tt; is_new = is_new_scans l; plan = with_scans p (next_scans l) }
   unfolding next_plan_of flows_fault
   next-same l b =
       let n = p.scan_count in
@@ -71,13 +71,13 @@ module _ (p : Plan) (fits : p.scan_count ≤ length p.scans) (fine : flows_fault
     plan-first = rw (listed _ initial).first initial-again
 
     pub next-steps : (t : ℕ) → suc t < length (combinations (scans_of p))
-        → next_plan_of (plan_at p t) ≡ record { verdict = Fine; is_new = true; plan = plan_at p (suc t) }
+        → next_plan_of (plan_at p t) ≡ record { verdict = Ok tt; is_new = true; plan = plan_at p (suc t) }
     next-steps t h =
         let s = (listed _ initial).steps t h in
         let here : t < length (combinations (scans_of p)) = omega arith in
         next-same _ (same-accesses _ t here) ∙ rw (s.0, s.1)
 
-    pub next-ends : (t : ℕ) → suc t ≡ length (combinations (scans_of p)) → next_plan_of (plan_at p t) ≡ record { verdict = Fine; is_new = false; plan = p }
+    pub next-ends : (t : ℕ) → suc t ≡ length (combinations (scans_of p)) → next_plan_of (plan_at p t) ≡ record { verdict = Ok tt; is_new = false; plan = p }
     next-ends t e =
         let s = (listed _ initial).ends t e in
         let here : t < length (combinations (scans_of p)) = omega arith in

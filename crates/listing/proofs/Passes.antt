@@ -9,7 +9,7 @@ use native.Mathlib.Nat.{not-suc-le-zero, le_of_suc-le-suc}
 use lib.ListN.{length, get_or}
 use lib.Seq.{length-take-le, take_at}
 use Rattle.datom.specs.declared.Aid.{Aid}
-use Rattle.refusal.specs.declared.Verdict.TheVariants.{Fine}
+use Rattle.std.specs.Prelude.{Ok}
 use Rattle.plan.specs.declared.Slot.{Slot}
 use Rattle.plan.specs.declared.Scan.{Scan}
 use Rattle.plan.specs.declared.Plan.{Plan}
@@ -89,7 +89,7 @@ module _ (p : Plan) (l : List Scan) (fits : p.scan_count ≤ length p.scans) (b 
   pub same-scans : scans_of (with_scans p l) ≡ l
   same-scans = take_at l _ _ same_count
 
-  pub same-passes : check_of p ≡ Fine → check_of (with_scans p l) ≡ Fine
+  pub same-passes : check_of p ≡ Ok tt → check_of (with_scans p l) ≡ Ok tt
   same-passes e =
       let q = promises p e in
       promised-passes (with_scans p l) record {
@@ -104,6 +104,6 @@ module _ (p : Plan) (l : List Scan) (fits : p.scan_count ≤ length p.scans) (b 
       }
 
 -- every plan listed
-pub listed-passes : (p : Plan) → p.scan_count ≤ length p.scans → check_of p ≡ Fine
-    → (t : ℕ) → t < length (combinations (scans_of p)) → check_of (with_scans p (get_or (combinations (scans_of p)) t [])) ≡ Fine
+pub listed-passes : (p : Plan) → p.scan_count ≤ length p.scans → check_of p ≡ Ok tt
+    → (t : ℕ) → t < length (combinations (scans_of p)) → check_of (with_scans p (get_or (combinations (scans_of p)) t [])) ≡ Ok tt
 listed-passes p n e t h = same-passes p _ n (same-accesses (scans_of p) t h) e

@@ -1,2 +1,3 @@
+pub mod Answered
 pub mod Next
 pub mod Listing

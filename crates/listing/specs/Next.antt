@@ -1,6 +1,6 @@
 -- 01, "How a query becomes a plan": the cycles, and `next`.
 use Rattle.std.specs.Prelude.{ℕ, List, [], ◌∷◌, ◌++◌, Bool, true, false, cond, take, drop}
-use Rattle.refusal.specs.declared.Verdict.TheVariants.{Fine}
+use Rattle.std.specs.Prelude.{Ok}
 use Rattle.refusal.specs.Verdict.{unless}
 use Rattle.plan.specs.declared.Scan.{Scan}
 use Rattle.plan.specs.declared.Plan.{Plan}
@@ -9,8 +9,8 @@ use Rattle.plan.specs.declared.Index.TheVariants.{Aevt, Avet, Eavt}
 use Rattle.plan.specs.declared.Flow.{Flow}
 use Rattle.plan.specs.declared.Flow.TheVariants.{OutOut, InOut, InIn}
 use Rattle.plan.specs.Plan.{same_index, scans_of, scan_flows_fault, flows_fault}
-use Rattle.listing.specs.declared.NextPlan.{NextPlan}
-use Rattle.listing.specs.declared.NextScans.{NextScans}
+use Rattle.listing.specs.Answered.{NextPlan}
+use Rattle.listing.specs.Answered.{NextScans}
 
 -- cycles: out-out aevt, avet; in-in aevt, avet, eavt; in-out aevt, eavt; in-out avet alone. The one that an index is of, from its first on;
 -- out-out over eavt is refused, and of none
@@ -60,7 +60,7 @@ is_new_scans (s ∷ ss) = cond (is_new_index s.flow s.index) true (is_new_scans 
 
 -- an array of scans of which the first k count, stepped; the places past them stay as they are
 abbrev pub stepped : List Scan → ℕ → NextScans
-stepped scans k = record { verdict = Fine; is_new = is_new_scans (take k scans); scans = next_scans (take k scans) ++ drop k scans }
+stepped scans k = record { verdict = Ok tt; is_new = is_new_scans (take k scans); scans = next_scans (take k scans) ++ drop k scans }
 
 -- what `next` answers of scans without a plan; where it refuses (20, then 21 at the lowest such scan), no, and the scans as they were given
 unfoldable pub next_of_scans : List Scan → ℕ → NextScans
@@ -81,4 +81,4 @@ with_scans p ss = record {
 unfoldable pub next_plan_of : Plan → NextPlan
 next_plan_of p =
     unless (flows_fault p) (λ v. record { verdict = v; is_new = false; plan = p })
-    (record { verdict = Fine; is_new = is_new_scans (scans_of p); plan = with_scans p (next_scans (scans_of p)) })
+    (record { verdict = Ok tt; is_new = is_new_scans (scans_of p); plan = with_scans p (next_scans (scans_of p)) })

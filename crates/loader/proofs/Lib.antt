@@ -1,2 +1,3 @@
 pub mod Stepped
 pub mod OneAnswer
+pub mod Refused

@@ -9,8 +9,8 @@ use lib.ListN.{length, get_or, length-take}
 use lib.Seq.{length-take-le, get_or-take}
 use Rattle.capacity.specs.Capacity.{max_scans}
 use Rattle.lists.proofs.Tabled.{tabled-at, tabled-length}
-use Rattle.refusal.specs.declared.Verdict.{Verdict}
-use Rattle.refusal.specs.declared.Verdict.TheVariants.{Fine, Refused}
+use Rattle.refusal.specs.Verdict.{Verdict}
+use Rattle.std.specs.Prelude.{Ok, Err}
 use Rattle.refusal.proofs.Fine.{or-fine}
 use Rattle.refusal.proofs.First.{each-passes}
 use Rattle.plan.specs.declared.Scan.{Scan}
@@ -43,7 +43,7 @@ module _ (ws : List ℕ) where
   abbrev next : List Scan
   next = next_scans (scans_of p)
 
-  fine-says : length ws ≡ plan_words → flows_fault p ≡ Fine → plan_of_words (with_indexes (scans_of (with_scans p next)) 0 ws) ≡ with_scans p next
+  fine-says : length ws ≡ plan_words → flows_fault p ≡ Ok tt → plan_of_words (with_indexes (scans_of (with_scans p next)) 0 ws) ≡ with_scans p next
   unfolding flows_fault out_out_fault
   fine-says long e =
       let k = p.scan_count in
@@ -63,8 +63,8 @@ module _ (ws : List ℕ) where
   step-says long = go (flows_fault p) refl
     where
       go : (v : Verdict) → flows_fault p ≡ v → plan_of_words (stepped_after (next_plan_of p) ws) ≡ (next_plan_of p).plan
-      go Fine e = rw e (fine-says long e)
-      go (Refused r) e = rw e refl
+      go (Ok tt) e = rw e (fine-says long e)
+      go (Err r) e = rw e refl
 
   -- a word that is no index word of a scan that counts stays
   pub step_stays : (j : ℕ) → ((i : ℕ) → i < p.scan_count → j ≡ index_at i → ⊥) → word (stepped_after (stepped_of ws) ws) j ≡ word ws j
@@ -72,7 +72,7 @@ module _ (ws : List ℕ) where
   step_stays j other = go (flows_fault p) refl
     where
       go : (v : Verdict) → flows_fault p ≡ v → word (stepped_after (next_plan_of p) ws) j ≡ word ws j
-      go Fine e =
+      go (Ok tt) e =
           let all = length-take p.scan_count (with_scans p next).scans in
           rw e (indexes-other (scans_of (with_scans p next)) 0 ws j (λ n h q. other n (omega arith) (omega arith)))
-      go (Refused r) e = rw e refl
+      go (Err r) e = rw e refl

@@ -1,29 +1,29 @@
 -- How an answer stands in four words, and what the words of a plan, an order, types or a swap state hold after a call.
 use Rattle.std.specs.Prelude.{ℕ, Bool, true, false, List, [], ◌∷◌, length}
-use Rattle.refusal.specs.declared.Verdict.{Verdict}
+use Rattle.refusal.specs.Verdict.{Verdict}
 use Rattle.refusal.specs.Verdict.{number_of, place_of, unless}
 use Rattle.plan.specs.declared.Plan.{Plan}
 use Rattle.plan.specs.Plan.{scans_of}
 use Rattle.permutation.specs.declared.Permutations.{Permutations}
 use Rattle.permutation.specs.declared.Swap.{Swap}
-use Rattle.permutation.specs.declared.Step.{Step}
+use Rattle.permutation.specs.Answered.{Step}
 use Rattle.permutation.specs.Swaps.{next_swap_of as step_of}
 use Rattle.loader_swap_words.specs.State.{state_of_words, words_of_state}
 use Rattle.loader_words.specs.Words.{plan_of_words, query_of_words}
 use Rattle.loader_plan_words.specs.Write.{words_of_plan, with_indexes}
-use Rattle.planner.specs.declared.Planned.{Planned}
+use Rattle.planner.specs.Answered.{Planned}
 use Rattle.planner.specs.Planning.{plan_of}
-use Rattle.search.specs.declared.Found.{Found}
+use Rattle.search.specs.Answered.{Found}
 use Rattle.search.specs.Search.{search_of}
-use Rattle.types.specs.declared.Inferred.{Inferred}
+use Rattle.types.specs.Answered.{Inferred}
 use Rattle.types.specs.Types.{inferred_of}
-use Rattle.listing.specs.declared.NextPlan.{NextPlan}
+use Rattle.listing.specs.Answered.{NextPlan}
 use Rattle.listing.specs.Next.{next_plan_of}
-use Rattle.tables_build.specs.declared.Built.{Built}
-use Rattle.eval.specs.declared.Evaluated.{Evaluated}
+use Rattle.tables_build.specs.Answered.{Built}
+use Rattle.eval.specs.Answered.{Evaluated}
 use Rattle.text_names.specs.Names.{select_name_fault, select_name_of}
-use Rattle.plan_text.specs.declared.Formatted.{Formatted}
-use Rattle.image.specs.declared.Stored.{Stored}
+use Rattle.plan_text.specs.Answered.{Formatted}
+use Rattle.image.specs.Answered.{Stored}
 
 -- number, place, and what else the call answers
 abbrev pub answer_of : Verdict → ℕ → ℕ → List ℕ

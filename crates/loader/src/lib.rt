@@ -26,18 +26,11 @@ ghost use Rattle.loader.specs.Answers.{answer_of, bit, plan_after, stepped_after
 use capacity::{MAX_SEARCHED, MAX_SLOTS};
 use loader_swap_words::STATE_WORDS;
 use loader_words::{PLAN_WORDS, QUERY_WORDS};
-use permutation::Permutations;
-use refusal::Verdict;
+use permutation::{Permutations, Swap};
+use refusal::Refusal;
+use tables::Tables;
 
-// Where each part of an answer stands, and how many words it has.
-const ANSWER_NUMBER: usize = 0;
-
-const ANSWER_PLACE: usize = 1;
-
-const ANSWER_FIRST: usize = 2;
-
-const ANSWER_SECOND: usize = 3;
-
+// An answer's words: the number, the place, and two more.
 pub const ANSWER_WORDS: usize = 4;
 
 // A swap's two positions.
@@ -53,18 +46,17 @@ pub fn loader_plan(
     ensures answer_after { answer.new ≡ answer_of (planned_of query.now).verdict 0 0 }
     ensures plan_after { plan.new ≡ plan_after (planned_of query.now).verdict (planned_of query.now).plan plan.old }
 {
-    let planned = planner_lent::plan_query(loader_words::read_query(query));
-    let verdict = planned.verdict;
-    *answer = answer_of(verdict, 0, 0);
-    if let Verdict::Refused(_) = verdict {
-        return number_of(verdict);
+    match planner_lent::plan_query(loader_words::read_query(query)) {
+        Ok(found) => {
+            *plan = loader_plan_words::words_of_plan(found);
+            accept(0, 0, answer)
+        }
+        Err(refusal) => refuse(refusal, answer),
     }
-    let found = planned.plan;
-    *plan = loader_plan_words::words_of_plan(found);
-    0
 }
 
 // The cheapest plan of a query, and the order of its statements. Answers the cost. Refusals 10 to 15, 17, 18.
+#[tactic(auto, using(crate::proofs::Refused::search_refused))]
 pub fn loader_search(
     query: &[u64; QUERY_WORDS],
     order: &mut [usize; MAX_SEARCHED],
@@ -76,17 +68,15 @@ pub fn loader_search(
     ensures order_after { order.new ≡ order_after (found_of query.now).verdict (found_of query.now).order order.old }
     ensures plan_after { plan.new ≡ plan_after (found_of query.now).verdict (found_of query.now).plan plan.old }
 {
-    let found = search_lent::search_query(loader_words::read_query(query));
-    let verdict = found.verdict;
-    *answer = answer_of(verdict, found.cost, 0);
-    if let Verdict::Refused(_) = verdict {
-        return number_of(verdict);
+    match search_lent::search_query(loader_words::read_query(query)) {
+        Ok(found) => {
+            // not `*order = found.order`: the borrow checker does not cover a field that is an array, stored straight
+            order.copy_from_slice(&found.order);
+            *plan = loader_plan_words::words_of_plan(found.plan);
+            accept(found.cost, 0, answer)
+        }
+        Err(refusal) => refuse(refusal, answer),
     }
-    let cheapest = found.plan;
-    let arranged = found.order;
-    *order = arranged;
-    *plan = loader_plan_words::words_of_plan(cheapest);
-    0
 }
 
 // The type of every variable of a query, by a table of (attribute, type). Refusals 10 to 16, 50 to 52.
@@ -100,35 +90,31 @@ pub fn loader_types(
     ensures answer_after { answer.new ≡ answer_of (typed_of query.now table.now).verdict 0 0 }
     ensures types_after { types.new ≡ types_after (typed_of query.now table.now) types.old }
 {
-    let read = loader_words::read_query(query);
-    let inferred = types::infer_types(read, table);
-    let verdict = inferred.verdict;
-    *answer = answer_of(verdict, 0, 0);
-    if let Verdict::Refused(_) = verdict {
-        return number_of(verdict);
+    match types::infer_types(loader_words::read_query(query), table) {
+        Ok(found) => {
+            *types = found;
+            accept(0, 0, answer)
+        }
+        Err(refusal) => refuse(refusal, answer),
     }
-    let found = inferred.types;
-    *types = found;
-    0
 }
 
 // Step a plan to the next one. Answers 1 where it is new, and 0 where the initial plan stands again. Only the indexes of the scans that
 // count are written. Refusals 20, 21.
+#[tactic(auto, using(crate::proofs::Refused::next_refused))]
 pub fn loader_next(plan: &mut [u64; PLAN_WORDS], answer: &mut [u64; ANSWER_WORDS]) -> u64
     ensures value { result ≡ number_of (stepped_of plan.old).verdict }
     ensures answer_after { answer.new ≡ answer_of (stepped_of plan.old).verdict (bit (stepped_of plan.old).is_new) 0 }
     ensures plan_after { plan.new ≡ stepped_after (stepped_of plan.old) plan.old }
 {
-    let stepped = listing::next(loader_words::read_plan(plan));
-    let verdict = stepped.verdict;
-    *answer = answer_of(verdict, bit_of(stepped.is_new), 0);
-    if let Verdict::Refused(_) = verdict {
-        return number_of(verdict);
+    let mut next = loader_words::read_plan(plan);
+    match listing::next(&mut next) {
+        Ok(is_new) => {
+            loader_plan_words::write_indexes(next.scans, next.scan_count, plan);
+            accept(u64::from(is_new), 0, answer)
+        }
+        Err(refusal) => refuse(refusal, answer),
     }
-    let next = stepped.plan;
-    let scans = next.scans;
-    loader_plan_words::write_indexes(scans, next.scan_count, plan);
-    0
 }
 
 // The plan check. Refusals 20, 13, 21 to 26, 29.
@@ -136,20 +122,22 @@ pub fn loader_check(plan: &[u64; PLAN_WORDS], answer: &mut [u64; ANSWER_WORDS]) 
     ensures value { result ≡ number_of (check_of (plan_of_words plan.now)) }
     ensures answer_after { answer.new ≡ answer_of (check_of (plan_of_words plan.now)) 0 0 }
 {
-    let verdict = plan_check::check_invariants(loader_words::read_plan(plan));
-    *answer = answer_of(verdict, 0, 0);
-    number_of(verdict)
+    match plan_check::check_invariants(loader_words::read_plan(plan)) {
+        Ok(()) => accept(0, 0, answer),
+        Err(refusal) => refuse(refusal, answer),
+    }
 }
 
 // The cost of a plan. Answers it. Refusals 20, 21, 27.
+#[tactic(auto, using(crate::proofs::Refused::cost_refused))]
 pub fn loader_cost(plan: &[u64; PLAN_WORDS], answer: &mut [u64; ANSWER_WORDS]) -> u64
     ensures value { result ≡ number_of (cost_of (plan_of_words plan.now)).verdict }
     ensures answer_after { answer.new ≡ answer_of (cost_of (plan_of_words plan.now)).verdict (cost_of (plan_of_words plan.now)).cost 0 }
 {
-    let costed = cost::cost(loader_words::read_plan(plan));
-    let verdict = costed.verdict;
-    *answer = answer_of(verdict, costed.cost, 0);
-    number_of(verdict)
+    match cost::cost(loader_words::read_plan(plan)) {
+        Ok(cost) => accept(cost, 0, answer),
+        Err(refusal) => refuse(refusal, answer),
+    }
 }
 
 // The check of three tables. Refusals 1 to 3.
@@ -162,9 +150,11 @@ pub fn loader_tables(
     ensures value { result ≡ number_of (tables_fault aevt.now avet.now eavt.now) }
     ensures answer_after { answer.new ≡ answer_of (tables_fault aevt.now avet.now eavt.now) 0 0 }
 {
-    let verdict = tables::check_tables(aevt, avet, eavt);
-    *answer = answer_of(verdict, 0, 0);
-    number_of(verdict)
+    let tables = Tables { aevt, avet, eavt };
+    match tables.check() {
+        Ok(()) => accept(0, 0, answer),
+        Err(refusal) => refuse(refusal, answer),
+    }
 }
 
 // The three tables of a heap of triples: sorted, repeats dropped. Answers how many rows they have. Refusals 70, 71.
@@ -181,14 +171,15 @@ pub fn loader_build(
     ensures avet_after { avet.new ≡ built_over (build_of heap.now (length aevt.old) (length avet.old) (length eavt.old)).verdict (built_rows avet_row heap.now) avet.old }
     ensures eavt_after { eavt.new ≡ built_over (build_of heap.now (length aevt.old) (length avet.old) (length eavt.old)).verdict (built_rows eavt_row heap.now) eavt.old }
 {
-    let built = tables_build::build(heap, aevt, avet, eavt);
-    let verdict = built.verdict;
-    *answer = answer_of(verdict, built.count as u64, 0);
-    number_of(verdict)
+    match tables_build::build(heap, aevt, avet, eavt) {
+        Ok(count) => accept(count as u64, 0, answer),
+        Err(refusal) => refuse(refusal, answer),
+    }
 }
 
 // Evaluate a plan over three tables: its rows from number `from` on, as many whole ones as fit. Answers how many, and 1 where
 // another follows. Refusals: the plan check's, 1 to 3.
+#[tactic(auto, using(crate::proofs::Refused::rows_refused, crate::proofs::Refused::more_refused))]
 pub fn loader_evaluate<'a>(
     plan: &[u64; PLAN_WORDS],
     aevt: &'a [u64],
@@ -202,14 +193,15 @@ pub fn loader_evaluate<'a>(
     ensures answer_after { answer.new ≡ evaluated_words (evaluate_of (plan_of_words plan.now) (tables_of aevt.now avet.now eavt.now) from (length rows.old)) }
     ensures rows_after { rows.new ≡ buffer_after (plan_of_words plan.now) (tables_of aevt.now avet.now eavt.now) from rows.old }
 {
-    let read = loader_words::read_plan(plan);
-    let evaluated = eval::evaluate(read, aevt, avet, eavt, from, rows);
-    let verdict = evaluated.verdict;
-    *answer = answer_of(verdict, evaluated.count as u64, bit_of(evaluated.more));
-    number_of(verdict)
+    let tables = Tables { aevt, avet, eavt };
+    match eval::evaluate(loader_words::read_plan(plan), &tables, from, rows) {
+        Ok(shown) => accept(shown.count as u64, u64::from(shown.more), answer),
+        Err(refusal) => refuse(refusal, answer),
+    }
 }
 
 // The text of a plan, with a name for each slot. Answers its length. Refusals: the plan check's, 30, 31.
+#[tactic(auto, using(crate::proofs::Refused::text_refused))]
 pub fn loader_text(
     plan: &[u64; PLAN_WORDS],
     names: &[u8],
@@ -221,14 +213,14 @@ pub fn loader_text(
     ensures answer_after { answer.new ≡ formatted_words (formatted_of (plan_of_words plan.now) names.now ends.now (length out.old)) }
     ensures out_after { out.new ≡ text_after (plan_of_words plan.now) names.now ends.now out.old }
 {
-    let read = loader_words::read_plan(plan);
-    let formatted = plan_text::fmt(read, names, ends, out);
-    let verdict = formatted.verdict;
-    *answer = answer_of(verdict, formatted.length as u64, 0);
-    number_of(verdict)
+    match plan_text::fmt(loader_words::read_plan(plan), names, ends, out) {
+        Ok(length) => accept(length as u64, 0, answer),
+        Err(refusal) => refuse(refusal, answer),
+    }
 }
 
 // How long the name of a select is; it ends where that of the select's slot does. Refusals: the plan check's, 30, 26.
+#[tactic(auto, using(crate::proofs::Refused::name_refused))]
 pub fn loader_select_name<'a>(
     plan: &[u64; PLAN_WORDS],
     names: &'a [u8],
@@ -240,13 +232,17 @@ pub fn loader_select_name<'a>(
     ensures answer_after { answer.new ≡ name_words (plan_of_words plan.now) names.now ends.now index }
 {
     let read = loader_words::read_plan(plan);
-    let verdict = text_names::check_select_name(read, names, ends, index);
-    let name = text_names::get_select_name(read, names, ends, index);
-    *answer = answer_of(verdict, name.len() as u64, 0);
-    number_of(verdict)
+    match text_names::check_select_name(read, names, ends, index) {
+        Ok(()) => {
+            let name = text_names::get_select_name(read, names, ends, index);
+            accept(name.len() as u64, 0, answer)
+        }
+        Err(refusal) => refuse(refusal, answer),
+    }
 }
 
 // A plan's image, by which it is kept. Answers its length. Refusals: the plan check's, 64.
+#[tactic(auto, using(crate::proofs::Refused::store_refused))]
 pub fn loader_store(
     plan: &[u64; PLAN_WORDS],
     out: &mut [u8],
@@ -256,11 +252,10 @@ pub fn loader_store(
     ensures answer_after { answer.new ≡ stored_words (stored_of (plan_of_words plan.now) (length out.old)) }
     ensures out_after { out.new ≡ image_after (plan_of_words plan.now) out.old }
 {
-    let read = loader_words::read_plan(plan);
-    let stored = image_write::write_image(read, out);
-    let verdict = stored.verdict;
-    *answer = answer_of(verdict, stored.length as u64, 0);
-    number_of(verdict)
+    match image_write::write_image(loader_words::read_plan(plan), out) {
+        Ok(stored) => accept(stored as u64, 0, answer),
+        Err(refusal) => refuse(refusal, answer),
+    }
 }
 
 // The plan that an image says. Refusals 60 to 63, 20, and the plan check's.
@@ -273,15 +268,13 @@ pub fn loader_restore(
     ensures answer_after { answer.new ≡ answer_of (plan_read_of image.now).verdict 0 0 }
     ensures plan_after { plan.new ≡ plan_after (plan_read_of image.now).verdict (plan_read_of image.now).plan plan.old }
 {
-    let restored = image_read::read_image(image);
-    let verdict = restored.verdict;
-    *answer = answer_of(verdict, 0, 0);
-    if let Verdict::Refused(_) = verdict {
-        return number_of(verdict);
+    match image_read::read_image(image) {
+        Ok(found) => {
+            *plan = loader_plan_words::words_of_plan(found);
+            accept(0, 0, answer)
+        }
+        Err(refusal) => refuse(refusal, answer),
     }
-    let found = restored.plan;
-    *plan = loader_plan_words::words_of_plan(found);
-    0
 }
 
 // A swap state whose steps list every order of n elements. Refusal 40.
@@ -294,19 +287,18 @@ pub fn loader_permutations(
     ensures answer_after { answer.new ≡ answer_of (fresh_of n).verdict 0 0 }
     ensures state_after { state.new ≡ state_after (fresh_of n).verdict (fresh_of n).state state.old }
 {
-    let fresh = Permutations::new(n);
-    let verdict = fresh.verdict;
-    *answer = answer_of(verdict, 0, 0);
-    if let Verdict::Refused(_) = verdict {
-        return number_of(verdict);
+    match Permutations::new(n) {
+        Ok(fresh) => {
+            *state = loader_swap_words::words_of_state(fresh);
+            accept(0, 0, answer)
+        }
+        Err(refusal) => refuse(refusal, answer),
     }
-    let started = fresh.state;
-    *state = loader_swap_words::words_of_state(started);
-    0
 }
 
 // Step a swap state: the two positions to swap. Answers 1 where there is a swap, and 0 where none is left; the positions are then 0.
 // Refusal 40.
+#[tactic(auto, using(crate::proofs::Refused::swap_refused, crate::proofs::Refused::swap_said))]
 pub fn loader_next_swap(
     state: &mut [u64; STATE_WORDS],
     swap: &mut [u64; SWAP_WORDS],
@@ -317,53 +309,33 @@ pub fn loader_next_swap(
     ensures swap_after { swap.new ≡ swap_after (swapped_of state.old).next.verdict (swapped_of state.old).next.swap swap.old }
     ensures state_after { state.new ≡ state_after (swapped_of state.old).next.verdict (swapped_of state.old).state state.old }
 {
-    let step = loader_swap_words::read_state(state).next_value();
-    let next = step.next;
-    let verdict = next.verdict;
-    *answer = answer_of(verdict, bit_of(next.is_some), 0);
-    if let Verdict::Refused(_) = verdict {
-        return number_of(verdict);
+    let stepped = loader_swap_words::read_state(state).next_value();
+    match stepped.next {
+        Ok(next) => {
+            let Swap(first, second) = next.unwrap_or(Swap(0, 0));
+            *swap = [first as u64, second as u64];
+            *state = loader_swap_words::words_of_state(stepped.state);
+            accept(u64::from(next.is_some()), 0, answer)
+        }
+        Err(refusal) => refuse(refusal, answer),
     }
-    let positions = next.swap;
-    *swap = [positions.0 as u64, positions.1 as u64];
-    let after = step.state;
-    *state = loader_swap_words::words_of_state(after);
+}
+
+// The answer of a call that is not refused: the two words that it names.
+fn accept(first: u64, second: u64, answer: &mut [u64; ANSWER_WORDS]) -> u64
+    ensures value { result ≡ 0 }
+    ensures answer_after { answer.new ≡ answer_of (Ok tt) first second }
+{
+    *answer = [0, 0, first, second];
     0
 }
 
-// The number of a refusal, 0 where there is none; its place.
-fn number_of(verdict: Verdict) -> u64
-    ensures { result ≡ number_of verdict }
+// The answer of a call that is refused: the number of the refusal, and its place.
+fn refuse(refusal: Refusal, answer: &mut [u64; ANSWER_WORDS]) -> u64
+    ensures value { result ≡ number_of (Err refusal) }
+    ensures answer_after { answer.new ≡ answer_of (Err refusal) 0 0 }
 {
-    match verdict {
-        Verdict::Fine => 0,
-        Verdict::Refused(r) => r.number as u64,
-    }
-}
-
-fn place_of(verdict: Verdict) -> u64
-    ensures { result ≡ place_of verdict }
-{
-    match verdict {
-        Verdict::Fine => 0,
-        Verdict::Refused(r) => r.place as u64,
-    }
-}
-
-// The words of an answer.
-fn answer_of(verdict: Verdict, first: u64, second: u64) -> [u64; ANSWER_WORDS]
-    ensures { result ≡ answer_of verdict first second }
-{
-    let mut answer = [0u64; ANSWER_WORDS];
-    answer[ANSWER_NUMBER] = number_of(verdict);
-    answer[ANSWER_PLACE] = place_of(verdict);
-    answer[ANSWER_FIRST] = first;
-    answer[ANSWER_SECOND] = second;
-    answer
-}
-
-fn bit_of(said: bool) -> u64
-    ensures { result ≡ bit said }
-{
-    if said { 1 } else { 0 }
+    let number = u64::from(refusal.rule.number());
+    *answer = [number, refusal.place as u64, 0, 0];
+    number
 }

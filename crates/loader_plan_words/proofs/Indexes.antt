@@ -4,8 +4,8 @@ use Prim.Native.Nat.{ℕ, zero, suc, ◌+◌, ◌<◌, ◌≤◌}
 use mathlib.Core.List.{List, [], ◌∷◌}
 use native.Mathlib.Omega.{arith}
 use native.Mathlib.Nat.{not-suc-le-zero, le_of_suc-le-suc}
-use lib.ListN.{length, get_or, take, drop, set, length-set, length-take, drop_of_length-le}
-use lib.Seq.{get_or-set_same, get_or-set_other, get_or-take, drop-cons}
+use lib.ListN.{length, get_or, drop, set, length-set, drop_of_length-le}
+use lib.Seq.{get_or-set_same, get_or-set_other, drop-cons}
 use Rattle.plan.specs.declared.Scan.{Scan}
 use Rattle.plan.specs.Codes.{index_code}
 use Rattle.plan.specs.Plan.{zero_scan}
@@ -40,16 +40,15 @@ indexes-at (s ∷ ss) i ws (suc n) h room =
     let r : index_at (i + 1 + length ss) ≤ length (set ws (index_at i) (index_code s.index)) = rw length-set (omega arith) in
     rw e (indexes-at ss (i + 1) (set ws (index_at i) (index_code s.index)) n (le_of_suc-le-suc h) r)
 
--- a loop over the scans that count, one more, and after the last
-module _ (scans : List Scan) (k i : ℕ) (ws : List ℕ) where
-  pub indexes-more : i < k → i < length scans
-      → with_indexes (drop i (take k scans)) i ws ≡ with_indexes (drop (i + 1) (take k scans)) (i + 1) (set ws (index_at i) (index_code (get_or scans i zero_scan).index))
+-- a loop over scans, one more, and after the last
+module _ (ss : List Scan) (i : ℕ) (ws : List ℕ) where
+  pub indexes-more : i < length ss
+      → with_indexes (drop i ss) i ws ≡ with_indexes (drop (i + 1) ss) (i + 1) (set ws (index_at i) (index_code (get_or ss i zero_scan).index))
   unfolding with_indexes
-  indexes-more h m =
-      let long : i < length (take k scans) = simp length-take (omega arith) in
+  indexes-more h =
       let one : suc i ≡ i + 1 = omega arith in
-      rw (drop-cons (take k scans) i zero_scan long, get_or-take k scans i zero_scan h, one) refl
+      rw (drop-cons ss i zero_scan h, one) refl
 
-  pub indexes-done : length (take k scans) ≤ i → with_indexes (drop i (take k scans)) i ws ≡ ws
+  pub indexes-done : length ss ≤ i → with_indexes (drop i ss) i ws ≡ ws
   unfolding with_indexes
-  indexes-done h = rw (drop_of_length-le (take k scans) h) refl
+  indexes-done h = rw (drop_of_length-le ss h) refl

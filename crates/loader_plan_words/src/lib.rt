@@ -17,16 +17,13 @@ use plan::{Plan, Scan, Slot, SlotDefinition, SlotRecord};
 pub fn words_of_plan(plan: Plan) -> [u64; PLAN_WORDS]
     ensures { result ≡ words_of_plan plan }
 {
-    let scans = plan.scans;
-    let slots = plan.slots;
-    let select = plan.select;
     let mut words = [0u64; PLAN_WORDS];
     words[SCAN_COUNT_AT] = plan.scan_count as u64;
     words[SLOT_COUNT_AT] = plan.slot_count as u64;
     words[SELECT_COUNT_AT] = plan.select_count as u64;
-    write_scans(scans, &mut words);
-    write_slots(slots, &mut words);
-    write_select(select, &mut words);
+    write_scans(&plan.scans, &mut words);
+    write_slots(&plan.slots, &mut words);
+    write_select(&plan.select, &mut words);
     words
 }
 
@@ -35,45 +32,36 @@ pub fn words_of_plan(plan: Plan) -> [u64; PLAN_WORDS]
 pub fn write_indexes(scans: [Scan; MAX_SCANS], scan_count: usize, words: &mut [u64; PLAN_WORDS])
     ensures { words.new ≡ with_indexes (take scan_count scans) 0 words.old }
 {
-    let mut i: usize = 0;
-    while i < MAX_SCANS && i < scan_count {
-        let scan = scans[i];
-        let index = scan.index;
-        words[SCANS_AT + SCAN_WORDS * i] = plan::index_code(index);
-        i += 1;
+    for (i, scan) in scans[..scan_count.min(MAX_SCANS)].iter().enumerate() {
+        words[SCANS_AT + SCAN_WORDS * i] = plan::index_code(scan.index);
     }
 }
 
-fn write_scans(scans: [Scan; MAX_SCANS], words: &mut [u64])
+// Three loops alike: one function for all would have to say of the function for one record what it writes, which is longer than a loop.
+fn write_scans(scans: &[Scan; MAX_SCANS], words: &mut [u64])
     requires { length words.old ≡ plan_words }
-    ensures { words.new ≡ put_at scans_at (laid words_of_scan scans) words.old }
+    ensures { words.new ≡ put_at scans_at (laid words_of_scan scans.now) words.old }
 {
-    let mut i: usize = 0;
-    while i < MAX_SCANS {
-        write_scan(scans[i], SCANS_AT + SCAN_WORDS * i, words);
-        i += 1;
+    for (i, scan) in scans.iter().enumerate() {
+        write_scan(*scan, SCANS_AT + SCAN_WORDS * i, words);
     }
 }
 
-fn write_slots(slots: [SlotRecord; MAX_SLOTS], words: &mut [u64])
+fn write_slots(slots: &[SlotRecord; MAX_SLOTS], words: &mut [u64])
     requires { length words.old ≡ plan_words }
-    ensures { words.new ≡ put_at slots_at (laid words_of_slot slots) words.old }
+    ensures { words.new ≡ put_at slots_at (laid words_of_slot slots.now) words.old }
 {
-    let mut i: usize = 0;
-    while i < MAX_SLOTS {
-        write_slot(slots[i], SLOTS_AT + SLOT_WORDS * i, words);
-        i += 1;
+    for (i, slot) in slots.iter().enumerate() {
+        write_slot(*slot, SLOTS_AT + SLOT_WORDS * i, words);
     }
 }
 
-fn write_select(select: [Slot; MAX_SELECTS], words: &mut [u64])
+fn write_select(select: &[Slot; MAX_SELECTS], words: &mut [u64])
     requires { length words.old ≡ plan_words }
-    ensures { words.new ≡ put_at select_at (laid words_of_select select) words.old }
+    ensures { words.new ≡ put_at select_at (laid words_of_select select.now) words.old }
 {
-    let mut i: usize = 0;
-    while i < MAX_SELECTS {
-        write_selected(select[i], SELECT_AT + i, words);
-        i += 1;
+    for (i, slot) in select.iter().enumerate() {
+        write_selected(*slot, SELECT_AT + i, words);
     }
 }
 
@@ -82,10 +70,8 @@ fn write_scan(scan: Scan, at: usize, words: &mut [u64])
     requires { at + scan_words ≤ length words.old }
     ensures { words.new ≡ put_at at (words_of_scan scan) words.old }
 {
-    let index = scan.index;
-    let flow = scan.flow;
-    words[at] = plan::index_code(index);
-    words[at + SCAN_FLOW] = plan::flow_code(flow);
+    words[at] = plan::index_code(scan.index);
+    words[at + SCAN_FLOW] = plan::flow_code(scan.flow);
     words[at + SCAN_ENTITY] = scan.entity.0 as u64;
     words[at + SCAN_ATTRIBUTE] = scan.attribute.0;
     words[at + SCAN_VALUE] = scan.value.0 as u64;
@@ -95,9 +81,8 @@ fn write_slot(slot: SlotRecord, at: usize, words: &mut [u64])
     requires { at + slot_words ≤ length words.old }
     ensures { words.new ≡ put_at at (words_of_slot slot) words.old }
 {
-    let definition = slot.definition;
-    words[at] = constant_word(definition);
-    words[at + SLOT_VALUE] = value_word(definition);
+    words[at] = constant_word(slot.definition);
+    words[at + SLOT_VALUE] = value_word(slot.definition);
 }
 
 fn write_selected(slot: Slot, at: usize, words: &mut [u64])
@@ -107,6 +92,7 @@ fn write_selected(slot: Slot, at: usize, words: &mut [u64])
     words[at] = slot.0 as u64;
 }
 
+// The two words of a slot's definition. Crate `eval` has the second too, but neither crate stands on the other.
 fn constant_word(definition: SlotDefinition) -> u64
     ensures { result ≡ constant_word definition }
 {

@@ -34,10 +34,8 @@ fn read_counters(words: &[u64; STATE_WORDS]) -> [usize; MAX_ELEMENTS]
     ensures { result ≡ counters_in words.now }
 {
     let mut ks = [0usize; MAX_ELEMENTS];
-    let mut i: usize = 0;
-    while i < MAX_ELEMENTS {
-        ks[i] = words[COUNTERS_AT + i] as usize;
-        i += 1;
+    for (i, k) in ks.iter_mut().enumerate() {
+        *k = words[COUNTERS_AT + i] as usize;
     }
     ks
 }
@@ -46,14 +44,11 @@ fn read_counters(words: &[u64; STATE_WORDS]) -> [usize; MAX_ELEMENTS]
 pub fn words_of_state(state: Permutations) -> [u64; STATE_WORDS]
     ensures { result ≡ words_of_state state }
 {
-    let ks = state.ks;
     let mut words = [0u64; STATE_WORDS];
     words[ELEMENT_COUNT_AT] = state.n as u64;
     words[POSITION_AT] = state.i as u64;
-    let mut i: usize = 0;
-    while i < MAX_ELEMENTS {
-        words[COUNTERS_AT + i] = ks[i] as u64;
-        i += 1;
+    for (i, k) in state.ks.iter().enumerate() {
+        words[COUNTERS_AT + i] = *k as u64;
     }
     words
 }

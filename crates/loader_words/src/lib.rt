@@ -14,7 +14,7 @@
 ghost use Rattle.std.specs.Prelude.{◌≡◌, ◌<◌, min};
 ghost use Rattle.capacity.specs.Capacity.{max_scans, max_slots, max_selects, max_statements};
 ghost use Rattle.query.specs.Query.{largest};
-ghost use Rattle.loader_words.specs.Words.{is_no_kind, index_of, flow_of, definition_of, word_value, scan_at, slot_at, selected_at, statement_at, variable_at, scans_in, slots_in, selects_in, statements_in, variables_in, plan_of_words, query_of_words};
+ghost use Rattle.loader_words.specs.Words.{index_of, flow_of, definition_of, word_value, scan_at, slot_at, selected_at, statement_at, variable_at, scans_in, slots_in, selects_in, statements_in, variables_in, plan_of_words, query_of_words};
 
 use capacity::{MAX_SCANS, MAX_SELECTS, MAX_SLOTS, MAX_STATEMENTS};
 use datom::Aid;
@@ -106,14 +106,13 @@ pub fn read_query(words: &[u64; QUERY_WORDS]) -> Query
     }
 }
 
+// Each array is filled by a loop of its own: of what `array::from_fn` makes, the proof of an element does not close, as the closure may change.
 fn read_scans(words: &[u64; PLAN_WORDS]) -> [Scan; MAX_SCANS]
     ensures { result ≡ scans_in words.now }
 {
     let mut scans = [ZERO_SCAN; MAX_SCANS];
-    let mut i: usize = 0;
-    while i < MAX_SCANS {
+    for i in 0..MAX_SCANS {
         scans[i] = read_scan(words, i);
-        i += 1;
     }
     scans
 }
@@ -122,10 +121,8 @@ fn read_slots(words: &[u64; PLAN_WORDS]) -> [SlotRecord; MAX_SLOTS]
     ensures { result ≡ slots_in words.now }
 {
     let mut slots = [VARIABLE_SLOT; MAX_SLOTS];
-    let mut i: usize = 0;
-    while i < MAX_SLOTS {
+    for i in 0..MAX_SLOTS {
         slots[i] = read_slot(words, i);
-        i += 1;
     }
     slots
 }
@@ -134,10 +131,8 @@ fn read_select(words: &[u64; PLAN_WORDS]) -> [Slot; MAX_SELECTS]
     ensures { result ≡ selects_in words.now }
 {
     let mut select = [Slot(0); MAX_SELECTS];
-    let mut i: usize = 0;
-    while i < MAX_SELECTS {
+    for i in 0..MAX_SELECTS {
         select[i] = read_selected(words, i);
-        i += 1;
     }
     select
 }
@@ -146,10 +141,8 @@ fn read_statements(words: &[u64; QUERY_WORDS]) -> [Statement; MAX_STATEMENTS]
     ensures { result ≡ statements_in words.now }
 {
     let mut statements = [ZERO_STATEMENT; MAX_STATEMENTS];
-    let mut i: usize = 0;
-    while i < MAX_STATEMENTS {
+    for i in 0..MAX_STATEMENTS {
         statements[i] = read_statement(words, i);
-        i += 1;
     }
     statements
 }
@@ -158,10 +151,8 @@ fn read_variables(words: &[u64; QUERY_WORDS]) -> [Var; MAX_SELECTS]
     ensures { result ≡ variables_in words.now }
 {
     let mut select = [Var(0); MAX_SELECTS];
-    let mut i: usize = 0;
-    while i < MAX_SELECTS {
+    for i in 0..MAX_SELECTS {
         select[i] = read_variable(words, i);
-        i += 1;
     }
     select
 }
@@ -171,11 +162,10 @@ fn read_scan(words: &[u64; PLAN_WORDS], i: usize) -> Scan
     ensures { result ≡ scan_at words.now i }
 {
     let at = SCANS_AT + SCAN_WORDS * i;
-    let index = words[at];
-    let flow = words[at + SCAN_FLOW];
+    let (index, flow) = kind_of(words[at], words[at + SCAN_FLOW]);
     Scan {
-        index: index_of(index, flow),
-        flow: flow_of(index, flow),
+        index,
+        flow,
         entity: Slot(short(words[at + SCAN_ENTITY])),
         attribute: Aid(words[at + SCAN_ATTRIBUTE]),
         value: Slot(short(words[at + SCAN_VALUE])),
@@ -225,55 +215,34 @@ fn read_variable(words: &[u64; QUERY_WORDS], i: usize) -> Var
 fn short(word: u64) -> u16
     ensures { result ≡ min word largest }
 {
-    if word < u16::MAX as u64 {
-        word as u16
-    } else {
-        u16::MAX
-    }
+    word.min(u64::from(u16::MAX)) as u16
 }
 
-// Whether the words of an index and a flow are not such.
-fn is_no_kind(index: u64, flow: u64) -> bool
-    ensures { result ≡ is_no_kind index flow }
+// The index and the flow that the words say. Where one of them says none, out-out over eavt, which is refused.
+fn kind_of(index: u64, flow: u64) -> (Index, Flow)
+    ensures { result ≡ (index_of index flow, flow_of index flow) }
 {
-    plan::EAVT < index || plan::IN_IN < flow
-}
-
-fn index_of(index: u64, flow: u64) -> Index
-    ensures { result ≡ index_of index flow }
-{
-    if is_no_kind(index, flow) {
-        return Index::Eavt;
+    match (Index::try_from(index), Flow::try_from(flow)) {
+        (Ok(index), Ok(flow)) => (index, flow),
+        _ => (Index::Eavt, Flow::OutOut),
     }
-    plan::index_of_code(index)
-}
-
-fn flow_of(index: u64, flow: u64) -> Flow
-    ensures { result ≡ flow_of index flow }
-{
-    if is_no_kind(index, flow) {
-        return Flow::OutOut;
-    }
-    plan::flow_of_code(flow)
 }
 
 fn definition_of(is_constant: u64, value: u64) -> SlotDefinition
     ensures { result ≡ definition_of is_constant value }
 {
-    if is_constant == 1 {
-        return SlotDefinition::Constant(value);
+    match is_constant {
+        1 => SlotDefinition::Constant(value),
+        _ => SlotDefinition::Variable,
     }
-    SlotDefinition::Variable
 }
 
 fn value_of(is_constant: u64, value: u64) -> QueryValue
     ensures { result ≡ word_value is_constant value }
 {
-    if is_constant == 1 {
-        return QueryValue::Const(value);
+    match is_constant {
+        1 => QueryValue::Const(value),
+        0 => QueryValue::Var(Var(short(value))),
+        _ => QueryValue::Var(Var(u16::MAX)),
     }
-    if is_constant == 0 {
-        return QueryValue::Var(Var(short(value)));
-    }
-    QueryValue::Var(Var(u16::MAX))
 }

@@ -5,14 +5,14 @@ use Prim.Native.Nat.{ℕ}
 use mathlib.Core.Bool.{Bool, false}
 use mathlib.Core.List.{List}
 use lib.ListN.{length}
-use Rattle.refusal.specs.declared.Verdict.{Verdict}
-use Rattle.refusal.specs.declared.Verdict.TheVariants.{Fine, Refused}
+use Rattle.refusal.specs.Verdict.{Verdict}
+use Rattle.std.specs.Prelude.{Ok, Err}
 use Rattle.refusal.specs.Verdict.{unless}
 use Rattle.plan.specs.declared.Plan.{Plan}
 use Rattle.plan.specs.Plan.{SamePlan, scans_of, flows_fault}
 use Rattle.plan_check.specs.Check.{check_of}
 use Rattle.cost.specs.Cost.{cost_of}
-use Rattle.listing.specs.declared.NextPlan.{NextPlan}
+use Rattle.listing.specs.Answered.{NextPlan}
 use Rattle.listing.specs.Next.{next_scans, is_new_scans, with_scans, next_plan_of}
 use Rattle.listing.proofs.NextLists.{next-length, with-scans}
 use Rattle.visits.specs.Visits.{Tables, row_list}
@@ -50,12 +50,12 @@ module _ (p q : Plan) (e : SamePlan p q) where
   next-alike = rw (flows-alike, e.scans) (go (flows_fault q) (is_new_scans (scans_of q)) p q _ _ e stepped-alike)
     where
       stepped : Verdict → Bool → Plan → Plan → NextPlan
-      stepped v n a b = unless v (λ r. record { verdict = r; is_new = false; plan = a }) (record { verdict = Fine; is_new = n; plan = b })
+      stepped v n a b = unless v (λ r. record { verdict = r; is_new = false; plan = a }) (record { verdict = Ok tt; is_new = n; plan = b })
 
       go : (v : Verdict) (n : Bool) (a b c d : Plan) → SamePlan a b → SamePlan c d
           → ((stepped v n a c).verdict ≡ (stepped v n b d).verdict) × ((stepped v n a c).is_new ≡ (stepped v n b d).is_new) × SamePlan (stepped v n a c).plan (stepped v n b d).plan
-      go Fine n a b c d given after = (refl, refl, after)
-      go (Refused r) n a b c d given after = (refl, refl, given)
+      go (Ok tt) n a b c d given after = (refl, refl, after)
+      go (Err r) n a b c d given after = (refl, refl, given)
 
   pub rows_alike : (ts : Tables) → row_list p ts ≡ row_list q ts
   unfolding row_list

@@ -17,13 +17,13 @@ use Rattle.plan.specs.declared.Scan.{Scan}
 use Rattle.plan.specs.declared.Plan.{Plan}
 use Rattle.planner.specs.Planning.{plan_of}
 use Rattle.listing.specs.Next.{with_scans}
-use Rattle.search.specs.declared.Found.{Found}
+use Rattle.search.specs.Answered.{Found}
 use Rattle.search.specs.Search.{Candidate, orders, arranged, arranged_query, is_sound, weighed, candidates_of, least_from, found_as, not_found, first_least, search_of}
 use Rattle.search.specs.FirstLeast.{FirstLeast}
 use Rattle.search.proofs.Answer.{search-first}
 use Rattle.search.proofs.First.{least_first}
 use Rattle.search.proofs.Weighed.{only-orders}
-use Rattle.search.proofs.Cheapest.{refuses-unsound, unsound-refused}
+use Rattle.search.proofs.Least.{refuses-unsound, unsound-refused}
 use Rattle.meaning.specs.Demand.{SoundOrder, PlanIn, weighed_in, order_at, FirstOfLeast, Searches}
 use Rattle.meaning.proofs.Sound.{sound-without}
 use Rattle.meaning.proofs.Places.{member-at, at-member, same-default, place, place_at, place_of, place-steps, place-orders, some-sound, candidates-long, candidate-at}

@@ -10,8 +10,8 @@ use lib.ListN.{length}
 use lib.Seq.{length-take-le}
 use lib.Dec.{eqb}
 use Rattle.capacity.specs.Capacity.{max_statements, max_selects}
-use Rattle.refusal.specs.declared.Verdict.{Verdict}
-use Rattle.refusal.specs.declared.Verdict.TheVariants.{Fine, Refused}
+use Rattle.refusal.specs.Verdict.{Verdict}
+use Rattle.std.specs.Prelude.{Ok, Err}
 use Rattle.refusal.specs.Verdict.{refuse_if, unless}
 use Rattle.refusal.proofs.Fine.{or-fine}
 use Rattle.lists.proofs.Padded.{padded-length}
@@ -32,7 +32,7 @@ use Rattle.search.specs.Search.{arranged, arranged_query, search_of}
 use Rattle.search.proofs.Arranged.{arranged-all}
 use Rattle.search.proofs.Fresh.{fresh-plan}
 use Rattle.visits.specs.Visits.{Tables}
-use Rattle.eval.specs.declared.Evaluated.{Evaluated}
+use Rattle.eval.specs.Answered.{Evaluated}
 use Rattle.eval.specs.Evaluation.{evaluation_fault, evaluate_of}
 use Rattle.meaning.specs.Demand.{SameTriples, Shown, SoundOrder, Reached, initial_plan, PlanIn, order_at, FirstOfLeast}
 use Rattle.meaning.proofs.Shown.{fine-same}
@@ -42,7 +42,7 @@ use Rattle.meaning.proofs.Demand.{rows-demanded}
 use Rattle.meaning.proofs.Searched.{search-clear, search-explained}
 
 module _ (q : Query) (statements_sized : length q.where_statements.items ≡ max_statements) (selects_sized : length q.select.items ≡ max_selects) where
-  module _ (accepted : (plan_of q).verdict ≡ Fine) where
+  module _ (accepted : (plan_of q).verdict ≡ Ok tt) where
     abbrev as_given : List ℕ
     as_given = up_to q.where_statements.count
 
@@ -75,24 +75,24 @@ module _ (q : Query) (statements_sized : length q.where_statements.items ≡ max
     plan-shown {t} {p} r = rows-demanded q planned-clear as_given t p (given-plan r)
 
   -- and what the search finds is a plan of a sound order
-  pub found-shown : (search_of q).verdict ≡ Fine → (ts : Tables) → SameTriples ts → Shown ts q (search_of q).plan
+  pub found-shown : (search_of q).verdict ≡ Ok tt → (ts : Tables) → SameTriples ts → Shown ts q (search_of q).plan
   found-shown e = ⊎_elim found (λ w. absurd ((search-explained q statements_sized selects_sized).refuses w.0 e)) (search-explained q statements_sized selects_sized).answer
     where
       found : FirstOfLeast q (search_of q) → (ts : Tables) → SameTriples ts → Shown ts q (search_of q).plan
       found f = rows-demanded q (search-clear q statements_sized selects_sized e).0 (order_at q f.number) f.steps (search_of q).plan f.plan_is
 
 -- planning over lent slices: the query that holds what is lent has arrays as long as they must be
-pub lent-shown : (n : ℕ) (ss : List Statement) (vs : List Var) → (plan_lent n ss vs).verdict ≡ Fine → {t : ℕ} {p : Plan} → Reached (plan_lent n ss vs).plan t p
+pub lent-shown : (n : ℕ) (ss : List Statement) (vs : List Var) → (plan_lent n ss vs).verdict ≡ Ok tt → {t : ℕ} {p : Plan} → Reached (plan_lent n ss vs).plan t p
     → (ts : Tables) → SameTriples ts → Shown ts (query_of n (read_statements ss) (read_selects vs)) p
 lent-shown n ss vs = plan-shown (query_of n (read_statements ss) (read_selects vs)) (padded-length zero_statement max_statements ss) (padded-length zero_var max_selects vs)
 
 -- an answer that is fine was not refused
-fine-fault : (v : Verdict) (r : Evaluated) → (unless {A = Evaluated} v (λ w. record { verdict = w; count = 0; more = false }) r).verdict ≡ Fine → v ≡ Fine
-fine-fault Fine r e = refl
-fine-fault (Refused x) r e = e
+fine-fault : (v : Verdict) (r : Evaluated) → (unless {A = Evaluated} v (λ w. record { verdict = w; count = 0; more = false }) r).verdict ≡ Ok tt → v ≡ Ok tt
+fine-fault (Ok tt) r e = refl
+fine-fault (Err x) r e = e
 
 -- a call that is not refused was given three ascending tables of the same triples
-fine-tables : (p : Plan) (ts : Tables) (k room : ℕ) → (evaluate_of p ts k room).verdict ≡ Fine → SameTriples ts
+fine-tables : (p : Plan) (ts : Tables) (k room : ℕ) → (evaluate_of p ts k room).verdict ≡ Ok tt → SameTriples ts
 unfolding evaluate_of evaluation_fault
 fine-tables p ts k room h =
     let e = fine-fault (evaluation_fault p ts) _ h in
@@ -100,6 +100,6 @@ fine-tables p ts k room h =
 
 -- so where neither planning nor evaluation refuses, what is shown means the query
 pub fine-shown : (q : Query) → length q.where_statements.items ≡ max_statements → length q.select.items ≡ max_selects → (ts : Tables) (k room : ℕ)
-    → (plan_of q).verdict ≡ Fine → (evaluate_of (plan_of q).plan ts k room).verdict ≡ Fine → Shown ts q (plan_of q).plan
+    → (plan_of q).verdict ≡ Ok tt → (evaluate_of (plan_of q).plan ts k room).verdict ≡ Ok tt → Shown ts q (plan_of q).plan
 fine-shown q statements_sized selects_sized ts k room accepted h =
     plan-shown q statements_sized selects_sized accepted initial_plan ts (fine-tables (plan_of q).plan ts k room h)

@@ -9,8 +9,8 @@ use mathlib.Core.Bool.{Bool, true, false, ◌||◌, or-true, false≢true}
 use borrow.Author.Tests.{leb-true, le-leb, eqb-true, eq-eqb}
 use lib.Dec.{leb, eqb}
 use Rattle.lists.proofs.Tests.{either}
-use Rattle.refusal.specs.declared.Verdict.{Verdict}
-use Rattle.refusal.specs.declared.Verdict.TheVariants.{Fine, Refused}
+use Rattle.refusal.specs.Verdict.{Verdict}
+use Rattle.std.specs.Prelude.{Ok, Err}
 use Rattle.refusal.specs.Verdict.{refused, refuse_if, or_else, refuse_first, Lowest}
 use Rattle.refusal.proofs.First.{Fails, refused-lowest}
 use Rattle.query.specs.declared.QueryValue.{QueryValue}
@@ -20,13 +20,13 @@ use Rattle.query_check.specs.Refusals.{high_value}
 
 -- a verdict is fine, or what is said for a reason
 abbrev pub Explained : {R : Type 0} → (R → Verdict) → Verdict → Type 0
-Explained {R} said v = (v ≡ Fine) ⊎ ((w : R) × (v ≡ said w))
+Explained {R} said v = (v ≡ Ok tt) ⊎ ((w : R) × (v ≡ said w))
 
 module _ {R : Type 0} (said : R → Verdict) where
   -- the first of two
-  pub or-explained : (a b : Verdict) → Explained said a → (a ≡ Fine → Explained said b) → Explained said (or_else a b)
-  or-explained Fine b x f = f refl
-  or-explained (Refused r) b x f = x
+  pub or-explained : (a b : Verdict) → Explained said a → (a ≡ Ok tt → Explained said b) → Explained said (or_else a b)
+  or-explained (Ok tt) b x f = f refl
+  or-explained (Err r) b x f = x
 
   -- one that is given where a test holds
   pub if-explained : (t : Bool) (n p : ℕ) → (t ≡ true → (w : R) × (refused n p ≡ said w)) → Explained said (refuse_if t n p)

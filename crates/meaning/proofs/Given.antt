@@ -6,7 +6,7 @@ use native.Mathlib.Nat.{zero-add}
 use native.Mathlib.Omega.{arith}
 use lib.ListN.{length, get_or, take, replicate}
 use lib.Seq.{get_or-take, length-take-le}
-use Rattle.refusal.specs.declared.Verdict.TheVariants.{Fine}
+use Rattle.std.specs.Prelude.{Ok}
 use Rattle.query.specs.declared.Var.{Var}
 use Rattle.query.specs.declared.Statement.{Statement}
 use Rattle.query.specs.declared.Query.{Query}
@@ -61,7 +61,7 @@ variables-begun : (n : ℕ) → map (λ (s : SlotRecord). start_value s.definiti
 variables-begun zero = refl
 variables-begun (suc n) = ap (λ (l : List ℕ). 0 ∷ l) (variables-begun n)
 
-module _ (q : Query) (clear : Clear q) (accepted : (plan_of q).verdict ≡ Fine) where
+module _ (q : Query) (clear : Clear q) (accepted : (plan_of q).verdict ≡ Ok tt) where
   abbrev n : ℕ
   n = q.variable_count
 
@@ -106,7 +106,7 @@ module _ (q : Query) (clear : Clear q) (accepted : (plan_of q).verdict ≡ Fine)
     pub listed-scans : scans_of listed_plan ≡ l
     listed-scans = same-scans first l first_fits same
 
-    pub listed-checked : check_of listed_plan ≡ Fine
+    pub listed-checked : check_of listed_plan ≡ Ok tt
     listed-checked = same-passes first l first_fits same (plan-passes q clear.statements_sized clear.selects_sized accepted)
 
     listed-promised : Promised listed_plan

@@ -7,18 +7,18 @@ use native.Mathlib.Omega.{arith}
 use mathlib.Core.List.{List}
 use mathlib.Core.Bool.{false≢true}
 use lib.ListN.{length}
-use Rattle.refusal.specs.declared.Verdict.TheVariants.{Fine}
+use Rattle.std.specs.Prelude.{Ok}
 use Rattle.plan.specs.declared.Scan.{Scan}
 use Rattle.plan.specs.declared.Plan.{Plan}
 use Rattle.plan.specs.Plan.{scans_of, flows_fault}
-use Rattle.listing.specs.declared.NextPlan.{NextPlan}
+use Rattle.listing.specs.Answered.{NextPlan}
 use Rattle.listing.specs.Next.{next_plan_of}
 use Rattle.listing.specs.Listing.{combinations, Initial}
 use Rattle.listing.proofs.Listed.{wheels}
 use Rattle.listing.proofs.NextLists.{plan_at, plan-first, next-steps, next-ends}
 use Rattle.meaning.specs.Demand.{Reached, initial_plan, by_yes}
 
-module _ (p : Plan) (fits : p.scan_count ≤ length p.scans) (fine : flows_fault p ≡ Fine) (begun : Initial (scans_of p)) where
+module _ (p : Plan) (fits : p.scan_count ≤ length p.scans) (fine : flows_fault p ≡ Ok tt) (begun : Initial (scans_of p)) where
   abbrev all : List (List Scan)
   all = combinations (scans_of p)
 

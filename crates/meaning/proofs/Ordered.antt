@@ -9,7 +9,7 @@ use native.Mathlib.Nat.{zero-add}
 use borrow.Author.Tests.{ne_eqb}
 use lib.Dec.{eqb}
 use Rattle.capacity.specs.Capacity.{max_statements}
-use Rattle.refusal.specs.declared.Verdict.TheVariants.{Fine}
+use Rattle.std.specs.Prelude.{Ok}
 use Rattle.lists.proofs.Padded.{padded-length}
 use Rattle.orders.specs.Lists.{one}
 use Rattle.query.specs.declared.Statement.{Statement}
@@ -55,7 +55,7 @@ module _ (q : Query) (clear : Clear q) (o : List ℕ) (sound : SoundOrder q o) w
       ap (λ (l : List Statement). are_facts ts l a) ordered-statements ∙ facts-none ts (arranged (statements_of q) o) a ∙
       ap (λ (n : ℕ). eqb n 0) (many-order f (statements_of q) o (statements-ordered q clear.statements_sized clear.fine o sound.order)) ∙ sym (facts-none ts (statements_of q) a)
 
-  pub ordered-accepted : (plan_of (arranged_query q o)).verdict ≡ Fine
+  pub ordered-accepted : (plan_of (arranged_query q o)).verdict ≡ Ok tt
   ordered-accepted =
       plan-verdict (arranged_query q o) ∙ arranged-fault q clear.statements_sized clear.fine o sound.order ∙
       without-fine (arranged (statements_of q) o) sound.none_twice

@@ -13,8 +13,8 @@ use lib.Dec.{ltb, leb, eqb}
 use Rattle.lists.specs.Span.{span}
 use Rattle.lists.proofs.Span.{length-span, get_or-span}
 use Rattle.capacity.specs.Capacity.{max_statements, max_slots, max_selects}
-use Rattle.refusal.specs.declared.Verdict.{Verdict}
-use Rattle.refusal.specs.declared.Verdict.TheVariants.{Fine, Refused}
+use Rattle.refusal.specs.Verdict.{Verdict}
+use Rattle.std.specs.Prelude.{Ok, Err}
 use Rattle.refusal.specs.Verdict.{refused, refuse_if, number_of, unless}
 use Rattle.refusal.proofs.Fine.{or-fine}
 use Rattle.refusal.proofs.First.{Fails, each-passes}
@@ -27,7 +27,7 @@ use Rattle.query_check.proofs.Capacity.{Fits, capacity_fine}
 use Rattle.plan.specs.declared.Plan.{Plan}
 use Rattle.plan.specs.Plan.{empty_plan}
 use Rattle.planner.specs.Refusals.{plan_fault}
-use Rattle.planner.specs.declared.Planned.{Planned}
+use Rattle.planner.specs.Answered.{Planned}
 use Rattle.planner.specs.Planning.{plan_for, plan_of}
 use Rattle.planner.proofs.Accepted.{query-fits}
 use Rattle.planned.proofs.Places.{selects-below, all_named}
@@ -64,11 +64,11 @@ module _ (q : Query) where
   statements-explained =
       first-explained query_refusal (high n) 14 zero_statement (HighStatement q) 0 ss high-fails (λ i h. (high_statement i h, ap (refused 14) (zero-add i)))
 
-  none-high : statements_fault n ss 0 ≡ Fine → (j : ℕ) → HighStatement q j → ⊥
+  none-high : statements_fault n ss 0 ≡ Ok tt → (j : ℕ) → HighStatement q j → ⊥
   unfolding statements_fault
   none-high low j w = let f = (high-fails j).0 w in false≢true (sym ((each-passes _ _ zero_statement 0 ss).0 low j f.0) ∙ f.1)
 
-  select-low : selects_fault n vs m ≡ Fine → (j : ℕ) → HighSelect q j → ⊥
+  select-low : selects_fault n vs m ≡ Ok tt → (j : ℕ) → HighSelect q j → ⊥
   select-low low j w = omega (arith, w.1, selects-below n vs m low j zero_var w.0)
 
   -- 14, selects
@@ -116,7 +116,7 @@ module _ (q : Query) where
       or-explained query_refusal (selects_fault n vs m) _ (selects-explained (none-high low)) (λ _. unused-explained)))
 
   -- and where none is refused, none of the sentences is true
-  pub query-sound : query_fault q ≡ Fine → QueryReason q → ⊥
+  pub query-sound : query_fault q ≡ Ok tt → QueryReason q → ⊥
   query-sound fine (over_statements h) = omega (arith, h, (query-fits q fine).few_statements)
   query-sound fine (over_slots h) = omega (arith, h, (query-fits q fine).few_slots)
   query-sound fine (over_selects h) = omega (arith, h, (query-fits q fine).few_selects)
@@ -164,7 +164,7 @@ module _ (q : Query) where
       or-explained plan_refusal (query_fault q) _ (⊎_elim inl (λ w. inr (of_query w.0, w.1)) query-explained)
       (λ _. ⊎_elim inl (λ w. inr (new_twice w.0.0 w.0.1, w.1)) (bound-explained ss))
 
-  plan-sound : plan_fault q ≡ Fine → PlanReason q → ⊥
+  plan-sound : plan_fault q ≡ Ok tt → PlanReason q → ⊥
   unfolding plan_fault
   plan-sound fine (of_query r) = query-sound (or-fine (query_fault q) _ fine).0 r
   plan-sound fine (new_twice i h) = bound-sound ss (or-fine (query_fault q) _ fine).1 i h.here
@@ -175,11 +175,11 @@ module _ (q : Query) where
   plan-first (new_twice i h) = or-within 16 (query_fault q) _ (query-within 16 (omega arith) q) (bound-within 16 (omega arith) [] ss 0)
 
   either-answer : (p : Plan) (v : Verdict) → Explained (plan_refusal {q = q}) v →
-      let answer = unless {A = Planned} v (λ w. record { verdict = w; plan = empty_plan }) (record { verdict = Fine; plan = p }) in
-      (answer ≡ record { verdict = Fine; plan = p }) ⊎ ((w : PlanReason q) × (answer ≡ record { verdict = plan_refusal w; plan = empty_plan }))
-  either-answer p Fine x = inl refl
-  either-answer p (Refused r) (inl e) = let z : ◌≡◌ {A = ℕ} 0 1 = cc in absurd (omega arith)
-  either-answer p (Refused r) (inr (w, e)) = inr (w, ap (λ (v : Verdict). record { verdict = v; plan = empty_plan }) e)
+      let answer = unless {A = Planned} v (λ w. record { verdict = w; plan = empty_plan }) (record { verdict = Ok tt; plan = p }) in
+      (answer ≡ record { verdict = Ok tt; plan = p }) ⊎ ((w : PlanReason q) × (answer ≡ record { verdict = plan_refusal w; plan = empty_plan }))
+  either-answer p (Ok tt) x = inl refl
+  either-answer p (Err r) (inl e) = let z : ◌≡◌ {A = ℕ} 0 1 = cc in absurd (omega arith)
+  either-answer p (Err r) (inr (w, e)) = inr (w, ap (λ (v : Verdict). record { verdict = v; plan = empty_plan }) e)
 
   pub planning-explained : PlanningExplained q
   unfolding plan_of

@@ -8,7 +8,7 @@ use borrow.Author.Tests.{ne_eqb}
 use lib.ListN.{length, get_or, take, length-map}
 use lib.Seq.{length-take-le}
 use lib.Dec.{eqb}
-use Rattle.refusal.specs.declared.Verdict.TheVariants.{Fine}
+use Rattle.std.specs.Prelude.{Ok}
 use Rattle.refusal.proofs.Fine.{or-fine}
 use Rattle.refusal.proofs.First.{each-passes}
 use Rattle.query.specs.declared.Query.{Query}
@@ -38,16 +38,16 @@ use Rattle.meaning.proofs.Given.{first_count, first-selects, first_fits, listed-
 use Rattle.meaning.proofs.Listed.{reached-listed}
 
 -- tables are such exactly if they pass their check
-tables-fine : (ts : Tables) → SameTriples ts → tables_fault ts.aevt ts.avet ts.eavt ≡ Fine
+tables-fine : (ts : Tables) → SameTriples ts → tables_fault ts.aevt ts.avet ts.eavt ≡ Ok tt
 tables-fine ts s = pass-tables ts.aevt ts.avet ts.eavt s.aevt_sorted s.avet_sorted s.eavt_sorted s.in_avet s.in_eavt
 
-pub fine-same : (ts : Tables) → tables_fault ts.aevt ts.avet ts.eavt ≡ Fine → SameTriples ts
+pub fine-same : (ts : Tables) → tables_fault ts.aevt ts.avet ts.eavt ≡ Ok tt → SameTriples ts
 fine-same ts e =
     let p = tables-pass ts.aevt ts.avet ts.eavt e in
     record { aevt_sorted = p.aevt_sorted; avet_sorted = p.avet_sorted; eavt_sorted = p.eavt_sorted; in_avet = p.in_avet; in_eavt = p.in_eavt }
 
 -- 20 and 21 are among what the plan check asks
-passed-flows : (p : Plan) → check_of p ≡ Fine → flows_fault p ≡ Fine
+passed-flows : (p : Plan) → check_of p ≡ Ok tt → flows_fault p ≡ Ok tt
 unfolding check_of flows_fault out_out_fault
 passed-flows p e =
     let c = or-fine (counts_fault p.scan_count p.slot_count p.select_count) _ e in
@@ -70,11 +70,11 @@ module _ (q : Query) (clear : Clear q) where
       go zero e h = absurd (false≢true h)
       go (suc m) e h = omega arith
 
-  module _ (accepted : (plan_of q).verdict ≡ Fine) where
+  module _ (accepted : (plan_of q).verdict ≡ Ok tt) where
     abbrev first : Plan
     first = (plan_of q).plan
 
-    pub first-flows : flows_fault first ≡ Fine
+    pub first-flows : flows_fault first ≡ Ok tt
     first-flows = passed-flows first (plan-passes q clear.statements_sized clear.selects_sized accepted)
 
     pub first-initial : Initial (scans_of first)
@@ -82,7 +82,7 @@ module _ (q : Query) (clear : Clear q) where
 
     -- its plans have a scan, pass the check, and the tables do
     module _ (l : List Scan) (same : SameScans (scans_of first) l) (ts : Tables) (tables : SameTriples ts) where
-      not-refused : evaluation_fault (with_scans first l) ts ≡ Fine
+      not-refused : evaluation_fault (with_scans first l) ts ≡ Ok tt
       unfolding evaluation_fault
       not-refused =
           let some : eqb first.scan_count 0 ≡ false = ne_eqb first.scan_count 0 (λ e. omega (arith, some-statement, first_count q clear accepted, e)) in

@@ -10,8 +10,8 @@ use mathlib.Core.Bool.{true, not, false≢true}
 use borrow.Author.Tests.{not-true}
 use lib.ListN.{length, get_or, take, drop, drop_of_length-le}
 use lib.Seq.{drop-cons, take-suc}
-use Rattle.refusal.specs.declared.Verdict.{Verdict}
-use Rattle.refusal.specs.declared.Verdict.TheVariants.{Fine}
+use Rattle.refusal.specs.Verdict.{Verdict}
+use Rattle.std.specs.Prelude.{Ok}
 use Rattle.refusal.specs.Verdict.{refused, refuse_if, Lowest}
 use Rattle.refusal.proofs.Fine.{refuse-fine}
 use Rattle.query.specs.declared.Statement.{Statement}
@@ -53,10 +53,10 @@ module _ (ss : List Statement) where
   pub bound-explained : Explained (bound_refusal ss) (bound_twice_fault [] ss 0)
   bound-explained = from-explained (length ss) 0 (zero-add _) (λ j l. absurd (not-suc-le-zero l))
 
-  pub bound-sound : bound_twice_fault [] ss 0 ≡ Fine → (i : ℕ) → NewTwice ss i → ⊥
+  pub bound-sound : bound_twice_fault [] ss 0 ≡ Ok tt → (i : ℕ) → NewTwice ss i → ⊥
   bound-sound fine i w = false≢true (sym (bound-once [] ss 0 fine i zero_statement w.0) ∙ rw (w.1, w.2) refl)
 
-  pub without-fine : ((i : ℕ) → NewTwice ss i → ⊥) → bound_twice_fault [] ss 0 ≡ Fine
+  pub without-fine : ((i : ℕ) → NewTwice ss i → ⊥) → bound_twice_fault [] ss 0 ≡ Ok tt
   without-fine n = ⊎_elim (λ e. e) (λ w. absurd (n w.0.0 w.0.1.here)) bound-explained
 
   -- `is_sound`, which the search asks, is what 01 says of a sound order

@@ -6,7 +6,7 @@ use native.Mathlib.Omega.{arith}
 use mathlib.Core.List.{List, [], Memᴰ}
 use lib.ListN.{length, get_or}
 use Rattle.capacity.specs.Capacity.{max_searched}
-use Rattle.refusal.specs.declared.Verdict.TheVariants.{Fine}
+use Rattle.std.specs.Prelude.{Ok}
 use Rattle.refusal.proofs.Fine.{or-fine}
 use Rattle.query.specs.declared.Statement.{Statement}
 use Rattle.query.specs.declared.Query.{Query}
@@ -27,7 +27,7 @@ use Rattle.listing.proofs.NextLists.{same-flows}
 use Rattle.search.specs.Search.{Candidate, arranged, arranged_query, weighed, found_as}
 use Rattle.search.proofs.Bounded.{fault-fine}
 use Rattle.search.proofs.Fresh.{fresh-plan}
-use Rattle.search.proofs.Cheapest.{weighs-every, weighs-only}
+use Rattle.search.proofs.Least.{weighs-every, weighs-only}
 use Rattle.meaning.specs.Demand.{SoundOrder, Reached, PlanIn, weighed_in, Weighs}
 use Rattle.meaning.proofs.Sound.{sound-without}
 use Rattle.meaning.proofs.Places.{member-at, at-member, same-default}
@@ -60,7 +60,7 @@ module _ (q : Query) (clear : Clear q) where
     turned_clear : Clear turned
     turned_clear = ordered-clear q clear o sound
 
-    accepted : (plan_of turned).verdict ≡ Fine
+    accepted : (plan_of turned).verdict ≡ Ok tt
     accepted = ordered-accepted q clear o sound
 
     first-scans : scans_of first ≡ scans_for [] (arranged ss o) n
@@ -96,7 +96,7 @@ module _ (q : Query) (clear : Clear q) where
       short : length l ≤ max_searched
       short = omega (arith, few, same_count first l (first_fits turned turned_clear accepted) same, first_count turned turned_clear accepted)
 
-      plan-costs : cost_of (with_scans first l) ≡ record { verdict = Fine; cost = (weighed o l).cost }
+      plan-costs : cost_of (with_scans first l) ≡ record { verdict = Ok tt; cost = (weighed o l).cost }
       unfolding cost_of flows_fault check_of
       plan-costs =
           let counts = (or-fine (counts_fault first.scan_count first.slot_count first.select_count) _ (listed-checked turned turned_clear accepted l same)).0 in

@@ -4,7 +4,7 @@
 use Rattle.std.specs.Prelude.{◌≡◌, ◌⊎◌, ◌↔◌, Bool, true, false, ◌&&◌, ℕ, suc, ◌≤◌, ◌<◌, length, get_or, take}
 use mathlib.Core.List.{List, [], ◌∷◌, map, Memᴰ}
 use Rattle.capacity.specs.Capacity.{max_searched}
-use Rattle.refusal.specs.declared.Verdict.TheVariants.{Fine}
+use Rattle.std.specs.Prelude.{Ok}
 use Rattle.refusal.specs.Verdict.{refused}
 use Rattle.datom.specs.Fact.{Fact, aevt_row, avet_row, eavt_row}
 use Rattle.lists.specs.Padded.{padded}
@@ -21,7 +21,7 @@ use Rattle.plan.specs.declared.Plan.{Plan}
 use Rattle.cost.specs.Cost.{cost_of}
 use Rattle.planner.specs.Planning.{plan_of}
 use Rattle.listing.specs.Next.{next_plan_of}
-use Rattle.search.specs.declared.Found.{Found}
+use Rattle.search.specs.Answered.{Found}
 use Rattle.search.specs.Search.{Candidate, orders, arranged, arranged_query, candidates, found_as, not_found, search_of}
 use Rattle.tables.specs.Rows.{rows_of}
 use Rattle.tables.specs.Check.{is_among}
@@ -121,7 +121,7 @@ pub record Weighs (q : Query) (o : List ℕ) (p : Plan) (c : Candidate) : Type 0
   pub weighed : Memᴰ c (weighed_in q)
   pub order_is : c.order ≡ o
   pub plan_is : (found_as q c).plan ≡ p
-  pub cost_is : cost_of p ≡ record { verdict = Fine; cost = c.cost }
+  pub cost_is : cost_of p ≡ record { verdict = Ok tt; cost = c.cost }
 
 -- order number r of those that the swaps give
 abbrev pub order_at : Query → ℕ → List ℕ
@@ -133,10 +133,10 @@ pub record FirstOfLeast (q : Query) (f : Found) : Type 0 where
   pub number : ℕ
   pub steps : ℕ
   pub within : number < length (orders q.where_statements.count)
-  pub fine : f.verdict ≡ Fine
+  pub fine : f.verdict ≡ Ok tt
   pub order_is : f.order ≡ padded 0 max_searched (order_at q number)
   pub plan_is : PlanIn q (order_at q number) steps f.plan
-  pub cost_is : cost_of f.plan ≡ record { verdict = Fine; cost = f.cost }
+  pub cost_is : cost_of f.plan ≡ record { verdict = Ok tt; cost = f.cost }
   pub least : (o : List ℕ) (t : ℕ) (p : Plan) → PlanIn q o t p → f.cost ≤ (cost_of p).cost
   pub first : (r t : ℕ) (p : Plan) → (r < number) ⊎ ((r ≡ number) × (t < steps)) → PlanIn q (order_at q r) t p → f.cost < (cost_of p).cost
 

@@ -1,8 +1,8 @@
 -- 01, "Refusal numbers", 10 to 18: the sentence of each number, and its place; and that planning and the search refuse for the first of them.
 use Rattle.std.specs.Prelude.{◌≡◌, ◌⊎◌, ℕ, ◌+◌, ◌≤◌, ◌<◌, List, true, false, length, get_or}
 use Rattle.capacity.specs.Capacity.{max_statements, max_slots, max_selects, max_searched}
-use Rattle.refusal.specs.declared.Verdict.{Verdict}
-use Rattle.refusal.specs.declared.Verdict.TheVariants.{Fine}
+use Rattle.refusal.specs.Verdict.{Verdict}
+use Rattle.std.specs.Prelude.{Ok}
 use Rattle.refusal.specs.Verdict.{refused, number_of, Lowest}
 use Rattle.query.specs.declared.Query.{Query}
 use Rattle.query.specs.Query.{statements_of, selects_of, names, named, zero_var, zero_statement}
@@ -68,13 +68,13 @@ search_refusal (no_sound_order h) = refused 18 0
 -- lower number than the one given
 pub record PlanningExplained (q : Query) : Type 0 where
   pub answer :
-      (plan_of q ≡ record { verdict = Fine; plan = plan_for q (statements_of q) })
+      (plan_of q ≡ record { verdict = Ok tt; plan = plan_for q (statements_of q) })
       ⊎ ((w : PlanReason q) × (plan_of q ≡ record { verdict = plan_refusal w; plan = empty_plan }))
-  pub refuses : PlanReason q → (plan_of q).verdict ≡ Fine → ⊥
+  pub refuses : PlanReason q → (plan_of q).verdict ≡ Ok tt → ⊥
   pub first : (w : PlanReason q) → number_of (plan_of q).verdict ≤ number_of (plan_refusal w)
 
 -- the search finds the first of least cost, or it refuses for a reason and everything it answers is zeros; and likewise
 pub record SearchExplained (q : Query) : Type 0 where
   pub answer : FirstOfLeast q (search_of q) ⊎ ((w : SearchReason q) × (search_of q ≡ not_found (search_refusal w)))
-  pub refuses : SearchReason q → (search_of q).verdict ≡ Fine → ⊥
+  pub refuses : SearchReason q → (search_of q).verdict ≡ Ok tt → ⊥
   pub first : (w : SearchReason q) → number_of (search_of q).verdict ≤ number_of (search_refusal w)

@@ -9,20 +9,26 @@ use lib.ListN.{length, get_or, set, take, drop, replicate, take-append-drop}
 use lib.Dec.{ltb}
 use lib.Seq.{take-suc-set, drop-set-lt, get_or-set_other}
 use borrow.Author.Tests.{lt-ltb, le-ltb, ltb-false}
-use Rattle.refusal.specs.declared.Verdict.TheVariants.{Fine}
+use Rattle.std.specs.Prelude.{Ok, Err}
+use Rattle.refusal.specs.declared.Refusal.{Refusal}
 use Rattle.refusal.proofs.Fine.{refuse-fine}
 use Rattle.permutation.specs.declared.Permutations.{Permutations}
 use Rattle.capacity.specs.Capacity.{max_elements}
 use Rattle.permutation.specs.Swaps.{elements_fault, state_of, swap_at, given, no_swap, stop_from, stop_of, cleared, step_at, next_swap_of}
 
 -- 40 is given exactly over the capacity
-pub few-fine : (n : ℕ) → n ≤ max_elements → elements_fault n ≡ Fine
+pub few-fine : (n : ℕ) → n ≤ max_elements → elements_fault n ≡ Ok tt
 unfolding elements_fault
 few-fine n m = rw (le-ltb max_elements n m)
 
-pub fine-few : (n : ℕ) → elements_fault n ≡ Fine → n ≤ max_elements
+pub fine-few : (n : ℕ) → elements_fault n ≡ Ok tt → n ≤ max_elements
 unfolding elements_fault
 fine-few n e = ltb-false max_elements n (refuse-fine _ _ _ e)
+
+-- a state over the capacity is left as it was
+pub refused-stays : (s : Permutations) (r : Refusal) → elements_fault s.n ≡ Err r → next_swap_of s ≡ record { next = no_swap (Err r); state = s }
+unfolding next_swap_of
+refused-stays s r e = rw e refl
 
 -- a state within the capacity: a step stops where its look stops
 pub looks : (s : Permutations) → s.n ≤ max_elements → next_swap_of s ≡ step_at s (stop_of s)
@@ -52,7 +58,7 @@ unfolding stop_from
 next-gives n ks i m h k = looks (state_of n ks i) m ∙ rw (room n i h, lt-ltb (get_or ks i 0) i k, lt-ltb i n h, cleared-none ks i)
 
 -- past the last position none is left
-pub next-ends : (n : ℕ) (ks : List ℕ) (i : ℕ) → n ≤ max_elements → n ≤ i → next_swap_of (state_of n ks i) ≡ record { next = no_swap Fine; state = state_of n ks i }
+pub next-ends : (n : ℕ) (ks : List ℕ) (i : ℕ) → n ≤ max_elements → n ≤ i → next_swap_of (state_of n ks i) ≡ record { next = no_swap (Ok tt); state = state_of n ks i }
 unfolding stop_from
 next-ends n ks i m h = let e : n - i ≡ 0 = omega arith in looks (state_of n ks i) m ∙ rw (e, le-ltb i n h, cleared-none ks i)
 
@@ -82,3 +88,17 @@ next-turns n ks i m l h k =
     looks (state_of n ks i) m ∙ ap (step_at (state_of n ks i)) e ∙
     rw (cleared_more ks i p q (omega arith), ← get_or-set_other ks i p 0 0 (omega arith))
     (ap (step_at (state_of n (set ks i 0) (i + 1))) (sym (stop-set ks (n - (i + 1)) i (i + 1) (omega arith))) ∙ sym (looks (state_of n (set ks i 0) (i + 1)) m))
+
+-- the same of a state, as the loop of `next` holds it
+module _ (s : Permutations) (few : s.n ≤ max_elements) where
+  pub gives-at : s.i < s.n → get_or s.ks s.i 0 < s.i
+      → next_swap_of s ≡ record { next = given (swap_at s.i (get_or s.ks s.i 0)); state = state_of s.n (set s.ks s.i (get_or s.ks s.i 0 + 1)) 0 }
+  gives-at = next-gives s.n s.ks s.i few
+
+  pub ends-at : s.n ≤ s.i → next_swap_of s ≡ record { next = no_swap (Ok tt); state = s }
+  ends-at = next-ends s.n s.ks s.i few
+
+  pub turns-at : s.n ≤ length s.ks → s.i < s.n → s.i ≤ get_or s.ks s.i 0 → next_swap_of s ≡ next_swap_of (state_of s.n (set s.ks s.i 0) (s.i + 1))
+  turns-at = next-turns s.n s.ks s.i few
+
+pub ruleset steps = (fine-few, refused-stays, gives-at, ends-at, turns-at)

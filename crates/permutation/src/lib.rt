@@ -12,17 +12,19 @@
 #![tactic(auto)]
 
 ghost use Rattle.std.specs.Prelude.{◌≡◌};
-ghost use Rattle.permutation.specs.Swaps.{elements_fault, fresh_of, next_swap_of};
+ghost use Rattle.refusal.specs.Verdict.{answer};
+ghost use Rattle.permutation.specs.Swaps.{elements_fault, fresh_of, said_swap, next_swap_of, stepped_of};
 
 use capacity::MAX_ELEMENTS;
-use refusal::{Refusal, Verdict};
+use refusal::{Refusal, Rule, Verdict, refuse};
 
 // A state that generates all permutations on n elements.
 //
 // Its steps yield the indices of the elements to swap. As it yields the swaps that generate the permutations, it yields
 // `n! - 1` swaps. The first permutation is that with no swaps applied.
 //
-// This is the non-recursive version of Heap's algorithm: a counter for each element, and the position to look at next.
+// This is the non-recursive version of Heap's algorithm: a counter for each element, and the position to look at next. There is no heap, and a
+// damaged number of elements must be representable, as it is refused (40).
 #[derive(Clone, Copy)]
 pub struct Permutations {
     pub ks: [usize; MAX_ELEMENTS],
@@ -34,107 +36,57 @@ pub struct Permutations {
 #[derive(Clone, Copy)]
 pub struct Swap(pub usize, pub usize);
 
-// The answer of `new`: the state is that of no elements where it is refused.
+// The answer of the step by value: the next swap, if there is one, and the state after it.
 #[derive(Clone, Copy)]
-pub struct Fresh {
-    pub verdict: Verdict,
-    pub state: Permutations,
-}
-
-// The answer of `next`: where there is none, or it is refused, the swap is (0, 0).
-#[derive(Clone, Copy)]
-pub struct NextSwap {
-    pub verdict: Verdict,
-    pub is_some: bool,
-    pub swap: Swap,
-}
-
-// The answer of the step by value: what `next` answers, and the state after it.
-#[derive(Clone, Copy)]
-pub struct Step {
-    pub next: NextSwap,
+pub struct Stepped {
+    pub next: Result<Option<Swap>, Refusal>,
     pub state: Permutations,
 }
 
 impl Permutations {
     // The state whose steps are the swaps to generate all permutations on n elements.
-    pub fn new(n: usize) -> Fresh
-        ensures { result ≡ fresh_of n }
+    #[tactic(auto, unfolding(crate::specs::Swaps::fresh_of))]
+    pub fn new(n: usize) -> Result<Permutations, Refusal>
+        ensures { result ≡ answer (fresh_of n).verdict (fresh_of n).state }
     {
-        let verdict = elements_fault(n);
-        if let Verdict::Refused(_) = verdict {
-            return Fresh {
-                verdict,
-                state: Permutations {
-                    ks: [0; MAX_ELEMENTS],
-                    n: 0,
-                    i: 0,
-                },
-            };
-        }
-        Fresh {
-            verdict,
-            state: Permutations {
-                ks: [0; MAX_ELEMENTS],
-                n,
-                i: 0,
-            },
-        }
+        elements_fault(n)?;
+        Ok(Permutations {
+            ks: [0; MAX_ELEMENTS],
+            n,
+            i: 0,
+        })
     }
 
     // The next swap, until all permutations have been visited, and the state after it.
-    pub fn next_value(self) -> Step
-        ensures { result ≡ next_swap_of self }
+    pub fn next_value(self) -> Stepped
+        ensures { result ≡ stepped_of self }
     {
-        let n = self.n;
-        let verdict = elements_fault(n);
-        if let Verdict::Refused(_) = verdict {
-            return Step {
-                next: NextSwap {
-                    verdict,
-                    is_some: false,
-                    swap: Swap(0, 0),
-                },
-                state: self,
-            };
-        }
-        let mut ks = self.ks;
-        let mut i = self.i;
-        while i < n {
-            let k = ks[i];
-            if k < i {
-                ks[i] = k + 1;
-                let first = if i % 2 == 0 { 0 } else { k };
-                return Step {
-                    next: NextSwap {
-                        verdict: Verdict::Fine,
-                        is_some: true,
-                        swap: Swap(first, i),
-                    },
-                    state: Permutations { ks, n, i: 0 },
-                };
-            }
-            ks[i] = 0;
-            i += 1;
-        }
-        Step {
-            next: NextSwap {
-                verdict: Verdict::Fine,
-                is_some: false,
-                swap: Swap(0, 0),
-            },
-            state: Permutations { ks, n, i },
-        }
+        let mut state = self;
+        let next = state.next();
+        Stepped { next, state }
     }
 
     // Return the next swap, until all permutations have been visited: the lent state is changed in place.
-    pub fn next(&mut self) -> NextSwap
-        ensures { (result ≡ (next_swap_of self.old).next) × (self.new ≡ (next_swap_of self.old).state) }
+    #[tactic(auto, using(crate::proofs::Look::steps))]
+    pub fn next(&mut self) -> Result<Option<Swap>, Refusal>
+        ensures value { result ≡ said_swap (next_swap_of self.old).next }
+        ensures state_after { self.new ≡ (next_swap_of self.old).state }
     {
-        let before = *self;
-        let step = before.next_value();
-        *self = step.state;
-        step.next
+        elements_fault(self.n)?;
+        // Not a `for`: the position is part of the state, and where it stops is where the next call goes on.
+        while self.i < self.n {
+            let k = self.ks[self.i];
+            if k < self.i {
+                self.ks[self.i] += 1;
+                let first = if self.i % 2 == 0 { 0 } else { k };
+                let swap = Swap(first, self.i);
+                self.i = 0;
+                return Ok(Some(swap));
+            }
+            self.ks[self.i] = 0;
+            self.i += 1;
+        }
+        Ok(None)
     }
 }
 
@@ -144,10 +96,7 @@ fn elements_fault(n: usize) -> Verdict
     ensures { result ≡ elements_fault n }
 {
     if MAX_ELEMENTS < n {
-        return Verdict::Refused(Refusal {
-            number: refusal::TOO_MANY_ELEMENTS,
-            place: 0,
-        });
+        return refuse(Rule::TooManyElements, 0);
     }
-    Verdict::Fine
+    Ok(())
 }

@@ -1,6 +1,7 @@
 -- An index and a flow are read back from their numbers.
 use mathlib.Core.Path.{◌≡◌, refl, sym, ap, ◌∙◌}
-use Prim.Native.Nat.{ℕ, zero, suc}
+use Prim.Native.Nat.{ℕ, zero, suc, ◌≤◌}
+use native.Mathlib.Omega.{arith}
 use Rattle.plan.specs.declared.Index.{Index}
 use Rattle.plan.specs.declared.Index.TheVariants.{Aevt, Avet, Eavt}
 use Rattle.plan.specs.declared.Flow.{Flow}
@@ -24,13 +25,19 @@ index-code-same x y e = sym (index-code-back x) ∙ ap index_of_code e ∙ index
 pub flow-code-same : (f g : Flow) → flow_code f ≡ flow_code g → f ≡ g
 flow-code-same f g e = sym (flow-code-back f) ∙ ap flow_of_code e ∙ flow-code-back g
 
+-- no number is past the last
+pub index-code-few : (x : Index) → index_code x ≤ 2
+index-code-few Aevt = omega arith
+index-code-few Avet = omega arith
+index-code-few Eavt = omega arith
+
+pub flow-code-few : (f : Flow) → flow_code f ≤ 2
+flow-code-few OutOut = omega arith
+flow-code-few InOut = omega arith
+flow-code-few InIn = omega arith
+
 -- a number that is neither the first's nor the second's is read as the third
 pub third-index : (n : ℕ) → (n ≡ 0 → ⊥) → (n ≡ 1 → ⊥) → index_of_code n ≡ Eavt
 third-index zero a b = absurd (a refl)
 third-index (suc zero) a b = absurd (b refl)
 third-index (suc (suc n)) a b = refl
-
-pub third-flow : (n : ℕ) → (n ≡ 0 → ⊥) → (n ≡ 1 → ⊥) → flow_of_code n ≡ InIn
-third-flow zero a b = absurd (a refl)
-third-flow (suc zero) a b = absurd (b refl)
-third-flow (suc (suc n)) a b = refl

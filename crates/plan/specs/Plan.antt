@@ -1,6 +1,6 @@
 -- 01, "How a query becomes a plan" and "Index order of slots": what a plan is made of.
 use Rattle.std.specs.Prelude.{◌≡◌, ℕ, ◌≤◌, List, [], ◌∷◌, Bool, true, false, ◌||◌, take, get_or, replicate, length, ltb, eqb}
-use Rattle.refusal.specs.declared.Verdict.{Verdict}
+use Rattle.refusal.specs.Verdict.{Verdict}
 use Rattle.refusal.specs.Verdict.{refuse_if, or_else, refuse_first}
 use Rattle.capacity.specs.Capacity.{max_scans, max_slots, max_selects}
 use Rattle.plan.specs.declared.Slot.{Slot}

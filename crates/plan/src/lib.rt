@@ -12,12 +12,12 @@
 #![tactic(auto)]
 
 ghost use Rattle.std.specs.Prelude.{◌≡◌};
-ghost use Rattle.plan.specs.Codes.{index_code, flow_code, index_of_code, flow_of_code};
-ghost use Rattle.plan.specs.Plan.{slots_in_order, out_out_eavt, is_constant, entity_value_flow, empty_plan, counts_fault, scan_flows_fault, flows_fault};
+ghost use Rattle.plan.specs.Codes.{index_code, flow_code, index_of_code, flow_of_code, Decodes};
+ghost use Rattle.plan.specs.Plan.{slots_in_order, out_out_eavt, is_constant, entity_value_flow, empty_plan, counts_fault, out_out_fault, scan_flows_fault, flows_fault};
 
 use capacity::{MAX_SCANS, MAX_SELECTS, MAX_SLOTS};
 use datom::Aid;
-use refusal::{Verdict, refuse};
+use refusal::{Rule, Verdict, refuse};
 
 // The index of a slot.
 //
@@ -26,19 +26,21 @@ use refusal::{Verdict, refuse};
 pub struct Slot(pub u16);
 
 // The index to scan.
-#[derive(Clone, Copy)]
+//
+// The numbers are those that stand for the indexes in words.
+#[derive(Clone, Copy, Debug, PartialEq, Eq)]
 pub enum Index {
-    Aevt,
-    Avet,
-    Eavt,
+    Aevt = 0,
+    Avet = 1,
+    Eavt = 2,
 }
 
-// The indexes' numbers, wherever they stand as words.
-pub const AEVT: u64 = 0;
+// The same numbers, by name.
+pub const AEVT: u64 = Index::Aevt as u64;
 
-pub const AVET: u64 = 1;
+pub const AVET: u64 = Index::Avet as u64;
 
-pub const EAVT: u64 = 2;
+pub const EAVT: u64 = Index::Eavt as u64;
 
 // Which slots to fill, and which to read.
 //
@@ -59,19 +61,21 @@ pub const EAVT: u64 = 2;
 //   | Eavt  | Entity | Value  |
 //
 // * Test the existence of known facts. We read both the *entity* and *value*.
-#[derive(Clone, Copy)]
+//
+// The number of a flow is how many of a scan's two slots are inputs.
+#[derive(Clone, Copy, Debug, PartialEq, Eq)]
 pub enum Flow {
-    OutOut,
-    InOut,
-    InIn,
+    OutOut = 0,
+    InOut = 1,
+    InIn = 2,
 }
 
-// The flows' numbers: how many of a scan's two slots are inputs.
-pub const OUT_OUT: u64 = 0;
+// The same numbers, by name.
+pub const OUT_OUT: u64 = Flow::OutOut as u64;
 
-pub const IN_OUT: u64 = 1;
+pub const IN_OUT: u64 = Flow::InOut as u64;
 
-pub const IN_IN: u64 = 2;
+pub const IN_IN: u64 = Flow::InIn as u64;
 
 // The combination of an index and flow.
 //
@@ -103,6 +107,8 @@ pub struct Scan {
 //
 // A slot can contain either a constant, or the current value for a variable. Constants are filled once at the start of
 // evaluation; variable slots can be assigned new values at every iteration.
+//
+// No `Option`: the definitions name the two, and a variable is not a constant that is missing.
 #[derive(Clone, Copy)]
 pub enum SlotDefinition {
     Variable,
@@ -122,6 +128,8 @@ pub struct SlotRecord {
 // at the start of evaluation, with a constant. A query is executed as a number of nested loops, one for each scan. Scans can
 // read from slots that were written to by an earlier scan (one with a lower index). The innermost loop yields the result of
 // the query.
+//
+// Each array has its count beside it: there is no heap, and a damaged count must be representable, as it is refused (20).
 #[derive(Clone, Copy)]
 pub struct Plan {
     // The scans that fill the variable slots.
@@ -171,13 +179,9 @@ impl Scan {
     pub fn slots(self) -> [Slot; 2]
         ensures { result ≡ slots_in_order self }
     {
-        let index = self.index;
-        let entity = self.entity;
-        let value = self.value;
-        match index {
-            Index::Aevt => [entity, value],
-            Index::Avet => [value, entity],
-            Index::Eavt => [entity, value],
+        match self.index {
+            Index::Aevt | Index::Eavt => [self.entity, self.value],
+            Index::Avet => [self.value, self.entity],
         }
     }
 
@@ -187,16 +191,11 @@ impl Scan {
     pub fn entity_value_flow(self) -> EntityValueFlow
         ensures { result ≡ entity_value_flow self.flow self.index }
     {
-        let flow = self.flow;
-        let index = self.index;
-        match flow {
-            Flow::OutOut => EntityValueFlow::OutOut,
-            Flow::InOut => match index {
-                Index::Aevt => EntityValueFlow::InOut,
-                Index::Avet => EntityValueFlow::OutIn,
-                Index::Eavt => EntityValueFlow::InOut,
-            },
-            Flow::InIn => EntityValueFlow::InIn,
+        match (self.flow, self.index) {
+            (Flow::OutOut, _) => EntityValueFlow::OutOut,
+            (Flow::InOut, Index::Avet) => EntityValueFlow::OutIn,
+            (Flow::InOut, _) => EntityValueFlow::InOut,
+            (Flow::InIn, _) => EntityValueFlow::InIn,
         }
     }
 }
@@ -217,50 +216,64 @@ impl Plan {
     }
 }
 
-// The number of an index, and of a flow.
+// A number that no index has, or no flow.
+#[derive(Clone, Copy, Debug, PartialEq, Eq)]
+pub struct UnknownCode(pub u64);
+
+impl TryFrom<u64> for Index {
+    type Error = UnknownCode;
+
+    ghost try_from_gives = { Decodes index_code };
+
+    fn try_from(code: u64) -> Result<Self, UnknownCode> {
+        match code {
+            0 => Ok(Index::Aevt),
+            1 => Ok(Index::Avet),
+            2 => Ok(Index::Eavt),
+            _ => Err(UnknownCode(code)),
+        }
+    }
+}
+
+impl TryFrom<u64> for Flow {
+    type Error = UnknownCode;
+
+    ghost try_from_gives = { Decodes flow_code };
+
+    fn try_from(code: u64) -> Result<Self, UnknownCode> {
+        match code {
+            0 => Ok(Flow::OutOut),
+            1 => Ok(Flow::InOut),
+            2 => Ok(Flow::InIn),
+            _ => Err(UnknownCode(code)),
+        }
+    }
+}
+
+// The number of an index, and of a flow. Other crates, and their contracts, call these and the two below by their names.
 pub fn index_code(index: Index) -> u64
     ensures { result ≡ index_code index }
 {
-    match index {
-        Index::Aevt => AEVT,
-        Index::Avet => AVET,
-        Index::Eavt => EAVT,
-    }
+    index as u64
 }
 
 pub fn flow_code(flow: Flow) -> u64
     ensures { result ≡ flow_code flow }
 {
-    match flow {
-        Flow::OutOut => OUT_OUT,
-        Flow::InOut => IN_OUT,
-        Flow::InIn => IN_IN,
-    }
+    flow as u64
 }
 
 // The index, and the flow, of a number: one past the last is read as the last.
 pub fn index_of_code(code: u64) -> Index
     ensures { result ≡ index_of_code code }
 {
-    if code == AEVT {
-        return Index::Aevt;
-    }
-    if code == AVET {
-        return Index::Avet;
-    }
-    Index::Eavt
+    Index::try_from(code).unwrap_or(Index::Eavt)
 }
 
 pub fn flow_of_code(code: u64) -> Flow
     ensures { result ≡ flow_of_code code }
 {
-    if code == OUT_OUT {
-        return Flow::OutOut;
-    }
-    if code == IN_OUT {
-        return Flow::InOut;
-    }
-    Flow::InIn
+    Flow::try_from(code).unwrap_or(Flow::InIn)
 }
 
 // 20: a count over its capacity. Every call over a plan starts with it.
@@ -268,72 +281,52 @@ pub fn flow_of_code(code: u64) -> Flow
 pub fn check_counts(scan_count: usize, slot_count: usize, select_count: usize) -> Verdict
     ensures { result ≡ counts_fault scan_count slot_count select_count }
 {
-    if MAX_SLOTS < slot_count {
-        return refuse(refusal::PLAN_COUNTS, 0);
+    if MAX_SLOTS < slot_count || MAX_SCANS < scan_count || MAX_SELECTS < select_count {
+        return refuse(Rule::PlanCounts, 0);
     }
-    if MAX_SCANS < scan_count {
-        return refuse(refusal::PLAN_COUNTS, 0);
-    }
-    if MAX_SELECTS < select_count {
-        return refuse(refusal::PLAN_COUNTS, 0);
-    }
-    Verdict::Fine
+    Ok(())
 }
 
 // A constant starts set; a variable is set by a scan.
 pub fn is_constant(definition: SlotDefinition) -> bool
     ensures { result ≡ is_constant definition }
 {
-    match definition {
-        SlotDefinition::Variable => false,
-        SlotDefinition::Constant(_) => true,
-    }
+    matches!(definition, SlotDefinition::Constant(_))
 }
 
 // 21: whether a scan is out-out over eavt.
 pub fn is_out_out_eavt(scan: Scan) -> bool
     ensures { result ≡ out_out_eavt scan.flow scan.index }
 {
-    let flow = scan.flow;
-    let index = scan.index;
-    match flow {
-        Flow::OutOut => match index {
-            Index::Aevt => false,
-            Index::Avet => false,
-            Index::Eavt => true,
-        },
-        Flow::InOut => false,
-        Flow::InIn => false,
-    }
+    scan.flow == Flow::OutOut && scan.index == Index::Eavt
 }
 
 // What `cost` and `next` ask of a plan: 20, then 21 at the lowest such scan.
+#[tactic(auto, unfolding(crate::specs::Plan::flows_fault), using(crate::proofs::Counts::counted))]
 pub fn check_flows(plan: Plan) -> Verdict
     ensures { result ≡ flows_fault plan }
 {
-    let scan_count = plan.scan_count;
-    let counts = check_counts(scan_count, plan.slot_count, plan.select_count);
-    if let Verdict::Refused(_) = counts {
-        return counts;
-    }
-    let scans = plan.scans;
-    check_scan_flows(scans, scan_count)
+    check_counts(plan.scan_count, plan.slot_count, plan.select_count)?;
+    check_flows_of(&plan.scans[..plan.scan_count])
 }
 
-// The same of scans without a plan, of which the first `scan_count` count.
+// The same of scans without a plan, of which the first `scan_count` count: not a slice, since a count past the array is refused.
+#[tactic(auto, unfolding(crate::specs::Plan::scan_flows_fault))]
 pub fn check_scan_flows(scans: [Scan; MAX_SCANS], scan_count: usize) -> Verdict
     ensures { result ≡ scan_flows_fault scans scan_count }
 {
     if MAX_SCANS < scan_count {
-        return refuse(refusal::PLAN_COUNTS, 0);
+        return refuse(Rule::PlanCounts, 0);
     }
-    let mut i_scan = 0;
-    while i_scan < scan_count {
-        let scan = scans[i_scan];
-        if is_out_out_eavt(scan) {
-            return refuse(refusal::OUT_OUT_EAVT, i_scan);
-        }
-        i_scan += 1;
+    check_flows_of(&scans[..scan_count])
+}
+
+// 21 at the lowest scan that is out-out over eavt.
+pub fn check_flows_of(scans: &[Scan]) -> Verdict
+    ensures { result ≡ out_out_fault scans.now 0 }
+{
+    match scans.iter().position(|scan| is_out_out_eavt(*scan)) {
+        Some(i_scan) => refuse(Rule::OutOutEavt, i_scan),
+        None => Ok(()),
     }
-    Verdict::Fine
 }

@@ -1,3 +1,4 @@
+pub mod Record
 pub mod Tracks
 pub mod Selects
 pub mod Promises

@@ -11,7 +11,7 @@ use lib.ListN.{length, get_or, take}
 use lib.Seq.{append_snoc, length-take-le}
 use lib.Dec.{leb, eqb}
 use Rattle.lists.proofs.Walk.{each}
-use Rattle.refusal.specs.declared.Verdict.TheVariants.{Fine}
+use Rattle.std.specs.Prelude.{Ok}
 use Rattle.refusal.specs.Verdict.{refuse_if}
 use Rattle.refusal.proofs.Fine.{refuse-fine, or-fine}
 use Rattle.refusal.proofs.First.{first_fine, each_number}
@@ -27,14 +27,14 @@ use Rattle.plan_check.specs.Check.{first_writes, is_written, is_set, access_faul
 use Rattle.plan_check.specs.Promised.{Rightly, Fits, Promised}
 
 -- 23 and 24: what is read is set, and what is written is not
-access-fine : (a : Access) (set : Bool) (i : ℕ) → access_fault a set i ≡ Fine ↔ Rightly a set
+access-fine : (a : Access) (set : Bool) (i : ℕ) → access_fault a set i ≡ Ok tt ↔ Rightly a set
 access-fine Reads true i = (λ e. refl, λ r. refl)
 access-fine Reads false i = (λ e. cc, λ r. cc)
 access-fine Writes true i = (λ e. cc, λ r. cc)
 access-fine Writes false i = (λ e. refl, λ r. refl)
 
 -- 22 too: the slot is one of n
-slot-fine : (n : ℕ) (a : Access) (x : Slot) (set : Bool) (i : ℕ) → slot_fault n a x set i ≡ Fine ↔ (x.0 < n) × Rightly a set
+slot-fine : (n : ℕ) (a : Access) (x : Slot) (set : Bool) (i : ℕ) → slot_fault n a x set i ≡ Ok tt ↔ (x.0 < n) × Rightly a set
 unfolding slot_fault
 slot-fine n a x set i = (
   λ e.
@@ -45,7 +45,7 @@ slot-fine n a x set i = (
 
 module _ (slots : List SlotRecord) where
   -- 21 too: the scan fits after those before it
-  scan-fine : (before : List Scan) (s : Scan) (i : ℕ) → scan_fault slots before s i ≡ Fine ↔ Fits slots before s
+  scan-fine : (before : List Scan) (s : Scan) (i : ℕ) → scan_fault slots before s i ≡ Ok tt ↔ Fits slots before s
   unfolding scan_fault
   scan-fine before s i =
       let n = length slots in
@@ -68,7 +68,7 @@ module _ (slots : List SlotRecord) where
 
   -- each of the scans fits after those before it
   scans-fine : (before ss : List Scan) (i : ℕ)
-      → scans_fault slots before ss i ≡ Fine ↔ ((j : ℕ) → j < length ss → Fits slots (before ++ take j ss) (get_or ss j zero_scan))
+      → scans_fault slots before ss i ≡ Ok tt ↔ ((j : ℕ) → j < length ss → Fits slots (before ++ take j ss) (get_or ss j zero_scan))
   unfolding scans_fault
   scans-fine before [] i = (λ e j h. absurd (not-suc-le-zero h), λ f. refl)
   scans-fine before (s ∷ ss) i =
@@ -84,7 +84,7 @@ module _ (slots : List SlotRecord) where
 
   -- 25: each of so many slots from number k on is set
   unset-fine : (scans : List Scan) (left k : ℕ)
-      → unset_fault slots scans left k ≡ Fine ↔ ((j : ℕ) → j < left → is_set slots scans (k + j) ≡ true)
+      → unset_fault slots scans left k ≡ Ok tt ↔ ((j : ℕ) → j < left → is_set slots scans (k + j) ≡ true)
   unfolding unset_fault
   unset-fine scans left k =
       let set = each_number _ _ k k left in
@@ -92,7 +92,7 @@ module _ (slots : List SlotRecord) where
 
   -- 26 and 29: each of the selects names a slot of a variable
   selects_fine : (ks : List Slot) (i : ℕ)
-      → selects_fault slots ks i ≡ Fine
+      → selects_fault slots ks i ≡ Ok tt
       ↔ ((j : ℕ) → j < length ks → ((get_or ks j zero_slot).0 < length slots) × (constant_at slots (get_or ks j zero_slot).0 ≡ false))
   unfolding selects_fault select_fault
   selects_fine ks i =
@@ -104,7 +104,7 @@ module _ (slots : List SlotRecord) where
       )
 
 -- what a caller has of a plan that passes
-pub promises : (p : Plan) → check_of p ≡ Fine → Promised p
+pub promises : (p : Plan) → check_of p ≡ Ok tt → Promised p
 unfolding check_of initialization_fault
 promises p e =
     let slots = slots_of p in
@@ -127,7 +127,7 @@ promises p e =
     }
 
 -- and all that it takes to pass
-pub promised-passes : (p : Plan) → Promised p → check_of p ≡ Fine
+pub promised-passes : (p : Plan) → Promised p → check_of p ≡ Ok tt
 unfolding check_of initialization_fault counts_fault
 promised-passes p q =
     let slots = slots_of p in
@@ -140,7 +140,7 @@ promised-passes p q =
     ))
 
 -- a plan that passes has a scan: without one every slot is a constant, and there would be nothing to select
-pub scans-there : (p : Plan) → p.select_count ≤ length p.select → check_of p ≡ Fine → 0 < p.scan_count
+pub scans-there : (p : Plan) → p.select_count ≤ length p.select → check_of p ≡ Ok tt → 0 < p.scan_count
 unfolding is_set is_written
 scans-there p fits e =
     let q = promises p e in
@@ -151,3 +151,5 @@ scans-there p fits e =
     absurd (false≢true (rw (q.selects_variable 0 some, ← none) at set)))
     (λ (h : 0 < p.scan_count). h)
     (eq-or-lt_of_le (omega arith))
+
+pub ruleset counted = counts-fine

@@ -6,8 +6,8 @@ use mathlib.Core.Bool.{Bool, true, false, ◌||◌, or-false, or-true, or_assoc}
 use native.Mathlib.Nat.{zero-add}
 use native.Mathlib.Omega.{arith}
 use borrow.Author.Tests.{leb-false, eqb-true, eqb-false}
-use lib.ListN.{length, get_or, set, take, length-set, get_or-map}
-use lib.Seq.{get_or-take, length-take-le, get_or-set_same, get_or-set_other, append_snoc}
+use lib.ListN.{length, get_or, set, take, length-set, length-map, get_or-map}
+use lib.Seq.{take_all, get_or-take, length-take-le, get_or-set_same, get_or-set_other, append_snoc}
 use lib.Dec.{leb, eqb}
 use Rattle.lists.specs.Span.{span}
 use Rattle.lists.proofs.Span.{length-span, get_or-span}
@@ -119,3 +119,12 @@ pub record-decides : (slots : List SlotRecord) (ss : List Scan) (rec : List Init
     → take (length slots) rec ≡ constants_record slots → scans_fault_in (length slots) rec ss 0 ≡ initialization_fault slots ss
 unfolding initialization_fault
 record-decides slots ss rec l e = scans-track slots [] ss 0 (constants-track slots rec l e)
+
+-- the record that the check begins with
+pub constants-decide : (slots : List SlotRecord) (ss : List Scan)
+    → scans_fault_in (length (constants_record slots)) (constants_record slots) ss 0 ≡ initialization_fault slots ss
+constants-decide slots ss =
+    let long : length (constants_record slots) ≡ length slots = simp length-map in
+    rw long (record-decides slots ss (constants_record slots) (omega (arith, long)) (take_all (length slots) (constants_record slots) (omega (arith, long))))
+
+pub ruleset decided = constants-decide

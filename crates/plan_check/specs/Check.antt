@@ -2,8 +2,8 @@
 -- or 24), then 25, then select by select 26 or 29 (02, Ticket 9).
 use Rattle.std.specs.Prelude.{ℕ, ◌+◌, List, [], ◌∷◌, ◌++◌, Bool, true, false, not, ◌||◌, length, leb, eqb}
 use Rattle.lists.specs.Span.{span}
-use Rattle.refusal.specs.declared.Verdict.{Verdict}
-use Rattle.refusal.specs.declared.Verdict.TheVariants.{Fine}
+use Rattle.refusal.specs.Verdict.{Verdict}
+use Rattle.std.specs.Prelude.{Ok}
 use Rattle.refusal.specs.Verdict.{refused, refuse_if, or_else, first_fault, refuse_first}
 use Rattle.plan.specs.declared.Slot.{Slot}
 use Rattle.plan.specs.declared.Scan.{Scan}
@@ -35,10 +35,10 @@ is_set slots before k = constant_at slots k || is_written before k
 
 -- 23: writes a set slot; 24: reads an unset slot
 abbrev pub access_fault : Access → Bool → ℕ → Verdict
-access_fault Writes false i = Fine
+access_fault Writes false i = Ok tt
 access_fault Writes true i = refused 23 i
 access_fault Reads false i = refused 24 i
-access_fault Reads true i = Fine
+access_fault Reads true i = Ok tt
 
 -- one slot of scan i, of a plan of n slots: 22 where it names none of them, then 23 or 24
 unfoldable pub slot_fault : ℕ → Access → Slot → Bool → ℕ → Verdict
@@ -53,7 +53,7 @@ scan_fault slots before s i =
 
 -- the scans from number i on
 unfoldable pub scans_fault : List SlotRecord → List Scan → List Scan → ℕ → Verdict
-scans_fault slots before [] i = Fine
+scans_fault slots before [] i = Ok tt
 scans_fault slots before (s ∷ ss) i = or_else (scan_fault slots before s i) (scans_fault slots (before ++ (s ∷ [])) ss (i + 1))
 
 -- 25: the lowest slot that is never set, of those from number k on

@@ -1,7 +1,7 @@
 -- The per-slot record of the check (01, "Port order and changes of shape"): what its functions keep. Only private functions cite this;
 -- proofs/Tracks.antt shows that the record says what `is_set` says.
 use Rattle.std.specs.Prelude.{ℕ, ◌+◌, List, [], ◌∷◌, map, Bool, true, false, not, get_or, set, take, leb}
-use Rattle.refusal.specs.declared.Verdict.{Verdict}
+use Rattle.refusal.specs.Verdict.{Verdict}
 use Rattle.refusal.specs.Verdict.{refuse_if, or_else, refuse_first}
 use Rattle.plan.specs.declared.Slot.{Slot}
 use Rattle.plan.specs.declared.Scan.{Scan}

@@ -9,15 +9,15 @@
 // slots are tested against the number of slots and not of scans, and the record says of a slot only whether it is set.
 #![tactic(auto)]
 
-ghost use Rattle.std.specs.Prelude.{◌≡◌, ◌≤◌, take, set};
-ghost use Rattle.capacity.specs.Capacity.{max_scans, max_slots, max_selects};
+ghost use Rattle.std.specs.Prelude.{◌≡◌, ◌≤◌, length, OnOk};
+ghost use Rattle.capacity.specs.Capacity.{max_slots};
 ghost use Rattle.plan.specs.Plan.{first_access, second_access, is_constant};
-ghost use Rattle.plan_check.specs.Check.{access_fault, initialization_fault, selects_fault, check_of};
-ghost use Rattle.plan_check.specs.Record.{state_of, is_set_state, constants_record, access_record, scan_record, slot_fault_in, scan_fault_in, scans_fault_in, unset_fault_in};
+ghost use Rattle.plan_check.specs.Check.{initialization_fault, selects_fault, check_of};
+ghost use Rattle.plan_check.specs.Record.{state_of, constants_record, access_record, scan_record, slot_fault_in, scan_fault_in, scans_fault_in, unset_fault_in};
 
-use capacity::{MAX_SCANS, MAX_SELECTS, MAX_SLOTS};
+use capacity::MAX_SLOTS;
 use plan::{Access, Flow, Plan, Scan, Slot, SlotDefinition, SlotRecord};
-use refusal::{Verdict, refuse};
+use refusal::{Rule, Verdict, refuse};
 
 // For every slot, the check stores whether it is initialized.
 #[derive(Clone, Copy)]
@@ -29,27 +29,17 @@ enum Initialization {
 }
 
 // Check all invariants by calling all `check_*` functions: that nothing is wrong, or the first refusal.
+#[tactic(auto, unfolding(crate::specs::Check::check_of), using(crate::proofs::Promises::counted))]
 pub fn check_invariants(plan: Plan) -> Verdict
     ensures { result ≡ check_of plan }
 {
-    let scan_count = plan.scan_count;
-    let slot_count = plan.slot_count;
-    let select_count = plan.select_count;
-    let counts = plan::check_counts(scan_count, slot_count, select_count);
-    if let Verdict::Refused(_) = counts {
-        return counts;
+    plan::check_counts(plan.scan_count, plan.slot_count, plan.select_count)?;
+    if plan.select_count == 0 {
+        return refuse(Rule::NoSelects, 0);
     }
-    if select_count == 0 {
-        return refuse(refusal::NO_SELECTS, 0);
-    }
-    let scans = plan.scans;
-    let slots = plan.slots;
-    let select = plan.select;
-    let initialization = check_slot_initialization(scans, scan_count, slots, slot_count);
-    if let Verdict::Refused(_) = initialization {
-        return initialization;
-    }
-    check_selects(select, select_count, slots, slot_count)
+    let slots = &plan.slots[..plan.slot_count];
+    check_slot_initialization(&plan.scans[..plan.scan_count], slots)?;
+    check_selects(&plan.select[..plan.select_count], slots)
 }
 
 // Check invariants about slot initialization.
@@ -58,62 +48,27 @@ pub fn check_invariants(plan: Plan) -> Verdict
 // * Check that scans only read from slots that were written to by earlier scans.
 // * Check that every slot is written to by at least one scan or constant.
 // * Check that every slot is written to by at most one scan or constant.
-fn check_slot_initialization(
-    scans: [Scan; MAX_SCANS],
-    scan_count: usize,
-    slots: [SlotRecord; MAX_SLOTS],
-    slot_count: usize,
-) -> Verdict
-    requires { (slot_count ≤ max_slots) × (scan_count ≤ max_scans) }
-    ensures { result ≡ initialization_fault (take slot_count slots) (take scan_count scans) }
+#[tactic(auto, using(crate::proofs::Tracks::decided))]
+fn check_slot_initialization(scans: &[Scan], slots: &[SlotRecord]) -> Verdict
+    requires { length slots.now ≤ max_slots }
+    ensures { result ≡ initialization_fault slots.now scans.now }
 {
-    let constants = initial_record(slots, slot_count);
-    check_scans(scans, scan_count, slot_count, constants)
-}
-
-// The scans in order, from a record on, and then the slots that stay unset.
-fn check_scans(
-    scans: [Scan; MAX_SCANS],
-    scan_count: usize,
-    slot_count: usize,
-    constants: [Initialization; MAX_SLOTS],
-) -> Verdict
-    requires { (slot_count ≤ max_slots) × (scan_count ≤ max_scans) }
-    ensures { result ≡ scans_fault_in slot_count constants (take scan_count scans) 0 }
-{
-    let mut initialization = constants;
-    let mut i_scan = 0;
-    while i_scan < scan_count {
-        let scan = scans[i_scan];
-        let fault = check_scan(slot_count, initialization, scan, i_scan);
-        if let Verdict::Refused(_) = fault {
-            return fault;
-        }
-        let next = record_scan(initialization, scan);
-        initialization = next;
-        i_scan += 1;
-    }
-    check_all_set(slot_count, initialization)
+    let mut all_slots = [Initialization::Unset; MAX_SLOTS];
+    let initialization = &mut all_slots[..slots.len()];
+    begin_record(initialization, slots);
+    check_scans(initialization, scans)
 }
 
 // The record before the first scan: constants are set.
-fn initial_record(slots: [SlotRecord; MAX_SLOTS], slot_count: usize) -> [Initialization; MAX_SLOTS]
-    requires { slot_count ≤ max_slots }
-    ensures { take slot_count result ≡ constants_record (take slot_count slots) }
+fn begin_record(initialization: &mut [Initialization], slots: &[SlotRecord])
+    requires { length initialization.old ≡ length slots.now }
+    ensures { initialization.new ≡ constants_record slots.now }
 {
-    let mut initialization = [Initialization::Unset; MAX_SLOTS];
-    let mut i_slot = 0;
-    while i_slot < slot_count {
-        let slot = slots[i_slot];
-        let definition = slot.definition;
-        let first = initialization_of(definition);
-        initialization[i_slot] = first;
-        i_slot += 1;
+    for (i_slot, slot) in slots.iter().enumerate() {
+        initialization[i_slot] = initialization_of(slot.definition);
     }
-    initialization
 }
 
-// A constant is set before any scan.
 fn initialization_of(definition: SlotDefinition) -> Initialization
     ensures { result ≡ state_of (is_constant definition) }
 {
@@ -123,48 +78,28 @@ fn initialization_of(definition: SlotDefinition) -> Initialization
     }
 }
 
-// 21; then for each of the scan's two slots in index order 22, then 23 or 24.
-fn check_scan(
-    slot_count: usize,
-    initialization: [Initialization; MAX_SLOTS],
-    scan: Scan,
-    i_scan: usize,
-) -> Verdict
-    requires { slot_count ≤ max_slots }
-    ensures { result ≡ scan_fault_in slot_count initialization scan i_scan }
+// The scans in order, from a record on, and then the slots that stay unset.
+fn check_scans(initialization: &mut [Initialization], scans: &[Scan]) -> Verdict
+    ensures { result ≡ scans_fault_in (length initialization.old) initialization.old scans.now 0 }
 {
-    if plan::is_out_out_eavt(scan) {
-        return refuse(refusal::OUT_OUT_EAVT, i_scan);
+    for (i_scan, scan) in scans.iter().enumerate() {
+        check_scan(initialization, scan, i_scan)?;
     }
-    let flow = scan.flow;
-    let slots = scan.slots();
-    let first = slots[0];
-    let second = slots[1];
-    let access = first_access(flow);
-    let fault = check_slot(slot_count, initialization, access, first, i_scan);
-    if let Verdict::Refused(_) = fault {
-        return fault;
-    }
-    let next = record_slot(initialization, access, first);
-    check_slot(slot_count, next, second_access(flow), second, i_scan)
+    check_all_set(initialization)
 }
 
-// The record after a scan.
-fn record_scan(
-    initialization: [Initialization; MAX_SLOTS],
-    scan: Scan,
-) -> [Initialization; MAX_SLOTS]
-    ensures { result ≡ scan_record initialization scan }
+// 21; then for each of the scan's two slots in index order 22, then 23 or 24. The record is then that after the scan.
+#[tactic(auto, unfolding(crate::specs::Record::scan_fault_in, crate::specs::Record::scan_record))]
+fn check_scan(initialization: &mut [Initialization], scan: &Scan, i_scan: usize) -> Verdict
+    ensures fault { result ≡ scan_fault_in (length initialization.old) initialization.old scan.now i_scan }
+    ensures record_after { OnOk result (initialization.new ≡ scan_record initialization.old scan.now) }
 {
-    let flow = scan.flow;
-    let slots = scan.slots();
-    let first = slots[0];
-    let second = slots[1];
-    record_slot(
-        record_slot(initialization, first_access(flow), first),
-        second_access(flow),
-        second,
-    )
+    if plan::is_out_out_eavt(*scan) {
+        return refuse(Rule::OutOutEavt, i_scan);
+    }
+    let [first, second] = scan.slots();
+    check_slot(initialization, first_access(scan.flow), first, i_scan)?;
+    check_slot(initialization, second_access(scan.flow), second, i_scan)
 }
 
 // Out-out writes both slots, in-out reads the first and writes the second, in-in reads both.
@@ -173,8 +108,7 @@ fn first_access(flow: Flow) -> Access
 {
     match flow {
         Flow::OutOut => Access::Writes,
-        Flow::InOut => Access::Reads,
-        Flow::InIn => Access::Reads,
+        Flow::InOut | Flow::InIn => Access::Reads,
     }
 }
 
@@ -182,118 +116,64 @@ fn second_access(flow: Flow) -> Access
     ensures { result ≡ second_access flow }
 {
     match flow {
-        Flow::OutOut => Access::Writes,
-        Flow::InOut => Access::Writes,
+        Flow::OutOut | Flow::InOut => Access::Writes,
         Flow::InIn => Access::Reads,
     }
 }
 
-// 22, then 23 or 24, for one slot of a scan.
+// 22, then 23 or 24, for one slot of a scan: writes a set slot, or reads an unset one. A slot that is written is then set.
+#[tactic(auto, using(crate::proofs::Record::slots))]
 fn check_slot(
-    slot_count: usize,
-    initialization: [Initialization; MAX_SLOTS],
+    initialization: &mut [Initialization],
     access: Access,
     slot: Slot,
     i_scan: usize,
 ) -> Verdict
-    requires { slot_count ≤ max_slots }
-    ensures { result ≡ slot_fault_in slot_count initialization access slot i_scan }
+    ensures fault { result ≡ slot_fault_in (length initialization.old) initialization.old access slot i_scan }
+    ensures record_after { OnOk result (initialization.new ≡ access_record initialization.old access slot) }
 {
     let i_slot = slot.0 as usize;
-    if i_slot < slot_count {
-        let init = initialization[i_slot];
-        check_access(access, init, i_scan)
-    } else {
-        refuse(refusal::NO_SUCH_SLOT, i_scan)
+    // No `get`: the record is read and written there, and after `get_mut` the proof does not know what it holds.
+    if initialization.len() <= i_slot {
+        return refuse(Rule::NoSuchSlot, i_scan);
     }
-}
-
-// 23: writes a set slot. 24: reads an unset slot.
-fn check_access(access: Access, init: Initialization, i_scan: usize) -> Verdict
-    ensures { result ≡ access_fault access (is_set_state init) i_scan }
-{
-    match access {
-        Access::Writes => match init {
-            Initialization::Unset => Verdict::Fine,
-            Initialization::Set => refuse(refusal::WRITES_SET_SLOT, i_scan),
-        },
-        Access::Reads => match init {
-            Initialization::Unset => refuse(refusal::READS_UNSET_SLOT, i_scan),
-            Initialization::Set => Verdict::Fine,
-        },
-    }
-}
-
-// The record after one slot of a scan.
-fn record_slot(
-    initialization: [Initialization; MAX_SLOTS],
-    access: Access,
-    slot: Slot,
-) -> [Initialization; MAX_SLOTS]
-    ensures { result ≡ access_record initialization access slot }
-{
-    match access {
-        Access::Reads => initialization,
-        Access::Writes => record_write(initialization, slot),
-    }
-}
-
-fn record_write(
-    initialization: [Initialization; MAX_SLOTS],
-    slot: Slot,
-) -> [Initialization; MAX_SLOTS]
-    ensures { result ≡ set initialization slot.0 Initialization.Set }
-{
-    let i_slot = slot.0 as usize;
-    if i_slot < MAX_SLOTS {
-        let mut next = initialization;
-        next[i_slot] = Initialization::Set;
-        next
-    } else {
-        initialization
+    match (access, initialization[i_slot]) {
+        (Access::Reads, Initialization::Set) => Ok(()),
+        (Access::Reads, Initialization::Unset) => refuse(Rule::ReadsUnsetSlot, i_scan),
+        (Access::Writes, Initialization::Set) => refuse(Rule::WritesSetSlot, i_scan),
+        (Access::Writes, Initialization::Unset) => {
+            initialization[i_slot] = Initialization::Set;
+            Ok(())
+        }
     }
 }
 
 // 25: the lowest slot that no constant and no scan sets.
-fn check_all_set(slot_count: usize, initialization: [Initialization; MAX_SLOTS]) -> Verdict
-    requires { slot_count ≤ max_slots }
-    ensures { result ≡ unset_fault_in (take slot_count initialization) 0 }
+fn check_all_set(initialization: &[Initialization]) -> Verdict
+    ensures { result ≡ unset_fault_in initialization.now 0 }
 {
-    let mut i_slot = 0;
-    while i_slot < slot_count {
-        let init = initialization[i_slot];
-        if let Initialization::Unset = init {
-            return refuse(refusal::SLOT_NEVER_SET, i_slot);
-        }
-        i_slot += 1;
+    let unset = initialization
+        .iter()
+        .position(|slot| matches!(slot, Initialization::Unset));
+    match unset {
+        Some(i_slot) => refuse(Rule::SlotNeverSet, i_slot),
+        None => Ok(()),
     }
-    Verdict::Fine
 }
 
 // 26 and 29: the selects only reference slots that exist, and that are variables.
-fn check_selects(
-    select: [Slot; MAX_SELECTS],
-    select_count: usize,
-    slots: [SlotRecord; MAX_SLOTS],
-    slot_count: usize,
-) -> Verdict
-    requires { (select_count ≤ max_selects) × (slot_count ≤ max_slots) }
-    ensures { result ≡ selects_fault (take slot_count slots) (take select_count select) 0 }
+#[tactic(auto, using(crate::proofs::Selects::selects))]
+fn check_selects(select: &[Slot], slots: &[SlotRecord]) -> Verdict
+    ensures { result ≡ selects_fault slots.now select.now 0 }
 {
-    let mut i_select = 0;
-    while i_select < select_count {
-        let slot = select[i_select];
-        let i_slot = slot.0 as usize;
-        if slot_count <= i_slot {
-            return refuse(refusal::NO_SUCH_SELECT, i_select);
-        }
-        let record = slots[i_slot];
-        let definition = record.definition;
+    for (i_select, slot) in select.iter().enumerate() {
+        let Some(record) = slots.get(slot.0 as usize) else {
+            return refuse(Rule::NoSuchSelect, i_select);
+        };
         // It is structurally impossible for queries to select a constant: such a plan did not come from the planner.
-        if plan::is_constant(definition) {
-            return refuse(refusal::CONSTANT_SELECTED, i_select);
+        if plan::is_constant(record.definition) {
+            return refuse(Rule::ConstantSelected, i_select);
         }
-        i_select += 1;
     }
-    Verdict::Fine
+    Ok(())
 }

@@ -5,7 +5,7 @@ use mathlib.Core.List.{List, [], ◌∷◌}
 use native.Mathlib.Omega.{arith}
 use Rattle.lists.specs.Laid.{laid}
 use Rattle.lists.specs.Span.{span}
-use Rattle.refusal.specs.declared.Verdict.TheVariants.{Fine}
+use Rattle.std.specs.Prelude.{Ok}
 use Rattle.refusal.specs.Verdict.{first_fault, refuse_first}
 use Rattle.plan_check.specs.Check.{is_written, is_set, slot_fault, scan_fault, scans_fault, unset_fault, initialization_fault, select_fault, selects_fault, check_of}
 use Rattle.plan.specs.declared.SlotDefinition.TheVariants.{Constant}
@@ -68,7 +68,7 @@ short n = record {
   select_count = 1;
 }
 
-short-passes : (check_of (short 1) ≡ Fine) × (check_of (short 2) ≡ Fine)
+short-passes : (check_of (short 1) ≡ Ok tt) × (check_of (short 2) ≡ Ok tt)
 unfolding check_of counts_fault initialization_fault scans_fault scan_fault slot_fault is_set is_written unset_fault refuse_first first_fault span selects_fault select_fault
 short-passes = (refl, refl)
 

@@ -30,6 +30,10 @@ constants-next ss i h =
     let none : 0 + length (take i ss) ≡ i = omega arith in
     rw (add-one, take-suc ss i variable_slot h) (constants-more (take i ss) (get_or ss i variable_slot) 0 ∙ ap (λ (n : ℕ). constant_lines (take i ss) 0 ++ constant_line n (get_or ss i variable_slot).definition) none)
 
+-- nothing stands before the first text
+pub separator-first : (i : ℕ) → (i ≡ 0) → separator i ≡ []
+separator-first i e = rw e refl
+
 -- what stands before a text that is not the first
 pub separator-past : (i : ℕ) → ((i ≡ 0) → ⊥) → separator i ≡ ascii ", "
 separator-past zero f = absurd (f refl)

@@ -10,7 +10,7 @@ use borrow.Author.Tests.{eqb-true}
 use lib.ListN.{length, get_or, get_or-eq_default}
 use lib.Seq.{ext_get_or, length-take-le}
 use Rattle.lists.proofs.Tests.{either}
-use Rattle.refusal.specs.declared.Verdict.TheVariants.{Fine}
+use Rattle.std.specs.Prelude.{Ok}
 use Rattle.plan.specs.declared.Scan.{Scan}
 use Rattle.plan.specs.declared.SlotRecord.{SlotRecord}
 use Rattle.plan.specs.declared.SlotDefinition.{SlotDefinition}
@@ -80,7 +80,7 @@ module _ (p q : Plan) (names ends : List ℕ) where
   unfolding text_of
   regrouped r = simp append_assoc
 
-  pub text-tells-parts : check_of p ≡ Fine → check_of q ≡ Fine → text_of p names ends ≡ text_of q names ends → SameParts p q
+  pub text-tells-parts : check_of p ≡ Ok tt → check_of q ≡ Ok tt → text_of p names ends ≡ text_of q names ends → SameParts p q
   unfolding record_with
   text-tells-parts fine fine' e =
       let v = promises p fine in
@@ -117,7 +117,7 @@ counts p f w =
       selects = length-take-le p.select_count p.select (rw d k);
     }
 
-pub text-tells : (p q : Plan) (names ends : List ℕ) → Filled p → Filled q → check_of p ≡ Fine → check_of q ≡ Fine → text_of p names ends ≡ text_of q names ends → SamePlan p q
+pub text-tells : (p q : Plan) (names ends : List ℕ) → Filled p → Filled q → check_of p ≡ Ok tt → check_of q ≡ Ok tt → text_of p names ends ≡ text_of q names ends → SamePlan p q
 text-tells p q names ends f f' fine fine' e =
     let o = text-tells-parts p q names ends fine fine' e in
     let v = counts p f (promises p fine) in

@@ -1,11 +1,11 @@
 -- 01, "Plan text": what the call answers and what the buffer holds after it.
 use Rattle.std.specs.Prelude.{ℕ, List, ◌++◌, length, drop, ltb}
-use Rattle.refusal.specs.declared.Verdict.{Verdict}
-use Rattle.refusal.specs.declared.Verdict.TheVariants.{Fine}
+use Rattle.refusal.specs.Verdict.{Verdict}
+use Rattle.std.specs.Prelude.{Ok}
 use Rattle.refusal.specs.Verdict.{refuse_if, or_else, unless}
 use Rattle.plan.specs.declared.Plan.{Plan}
 use Rattle.text_names.specs.Names.{names_fault}
-use Rattle.plan_text.specs.declared.Formatted.{Formatted}
+use Rattle.plan_text.specs.Answered.{Formatted}
 use Rattle.plan_text.specs.Text.{text_of}
 
 -- the plan check, 30; 31: text buffer too short for the whole text
@@ -15,7 +15,7 @@ text_fault p names ends room = or_else (names_fault p names ends) (refuse_if (lt
 -- the text's length
 unfoldable pub formatted_of : Plan → List ℕ → List ℕ → ℕ → Formatted
 formatted_of p names ends room =
-    unless (text_fault p names ends room) (λ v. record { verdict = v; length = 0 }) (record { verdict = Fine; length = length (text_of p names ends) })
+    unless (text_fault p names ends room) (λ v. record { verdict = v; length = 0 }) (record { verdict = Ok tt; length = length (text_of p names ends) })
 
 -- the text, and past it what was there; refused, what was there
 unfoldable pub text_after : Plan → List ℕ → List ℕ → List ℕ → List ℕ

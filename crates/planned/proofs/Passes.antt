@@ -6,8 +6,8 @@ use native.Mathlib.Omega.{arith}
 use lib.ListN.{length, get_or}
 use lib.Seq.{length-take-le}
 use Rattle.capacity.specs.Capacity.{max_statements, max_selects}
-use Rattle.refusal.specs.declared.Verdict.{Verdict}
-use Rattle.refusal.specs.declared.Verdict.TheVariants.{Fine, Refused}
+use Rattle.refusal.specs.Verdict.{Verdict}
+use Rattle.std.specs.Prelude.{Ok, Err}
 use Rattle.refusal.specs.Verdict.{unless}
 use Rattle.refusal.proofs.Fine.{or-fine}
 use Rattle.lists.proofs.Padded.{padded-length}
@@ -21,7 +21,7 @@ use Rattle.plan_check.proofs.Promises.{promised-passes}
 use Rattle.listing.specs.Next.{with_scans}
 use Rattle.listing.specs.Listing.{combinations, Initial}
 use Rattle.listing.proofs.Passes.{listed-passes}
-use Rattle.planner.specs.declared.Planned.{Planned}
+use Rattle.planner.specs.Answered.{Planned}
 use Rattle.planner.specs.Refusals.{bound_twice_fault, plan_fault}
 use Rattle.planner.specs.Planning.{scans_for, plan_for, plan_of}
 use Rattle.planner.proofs.Accepted.{query-fits}
@@ -29,25 +29,25 @@ use Rattle.planned.proofs.Initial.{scans-initial}
 use Rattle.planned.proofs.Promised.{planned-scans, plan-promised}
 
 -- the verdict is that of 10 to 16
-pub either-verdict : (v : Verdict) (p : Plan) → (unless {A = Planned} v (λ w. record { verdict = w; plan = empty_plan }) (record { verdict = Fine; plan = p })).verdict ≡ v
-either-verdict Fine p = refl
-either-verdict (Refused r) p = refl
+pub either-verdict : (v : Verdict) (p : Plan) → (unless {A = Planned} v (λ w. record { verdict = w; plan = empty_plan }) (record { verdict = Ok tt; plan = p })).verdict ≡ v
+either-verdict (Ok tt) p = refl
+either-verdict (Err r) p = refl
 
 pub plan-verdict : (q : Query) → (plan_of q).verdict ≡ plan_fault q
 unfolding plan_of
 plan-verdict q = either-verdict (plan_fault q) _
 
 module _ (q : Query) (statements_sized : length q.where_statements.items ≡ max_statements) (selects_sized : length q.select.items ≡ max_selects)
-    (accepted : (plan_of q).verdict ≡ Fine) where
-  none-refused : plan_fault q ≡ Fine
+    (accepted : (plan_of q).verdict ≡ Ok tt) where
+  none-refused : plan_fault q ≡ Ok tt
   none-refused = sym (plan-verdict q) ∙ accepted
 
   -- so the query is as it must be, no variable is bound twice, and the plan is there
-  pub query-fine : query_fault q ≡ Fine
+  pub query-fine : query_fault q ≡ Ok tt
   unfolding plan_fault
   query-fine = (or-fine (query_fault q) (bound_twice_fault [] (statements_of q) 0) none-refused).0
 
-  pub bound-fine : bound_twice_fault [] (statements_of q) 0 ≡ Fine
+  pub bound-fine : bound_twice_fault [] (statements_of q) 0 ≡ Ok tt
   unfolding plan_fault
   bound-fine = (or-fine (query_fault q) (bound_twice_fault [] (statements_of q) 0) none-refused).1
 
@@ -56,7 +56,7 @@ module _ (q : Query) (statements_sized : length q.where_statements.items ≡ max
   plan-there = simp none-refused
 
   -- it passes the check
-  pub plan-passes : check_of (plan_of q).plan ≡ Fine
+  pub plan-passes : check_of (plan_of q).plan ≡ Ok tt
   plan-passes = rw plan-there (promised-passes _ (plan-promised q statements_sized selects_sized query-fine bound-fine))
 
   -- below its count it has the scans of the statements
@@ -76,5 +76,5 @@ module _ (q : Query) (statements_sized : length q.where_statements.items ≡ max
 
   -- so every plan listed passes the check
   pub listed-all-pass : (t : ℕ) → t < length (combinations (scans_of (plan_of q).plan))
-      → check_of (with_scans (plan_of q).plan (get_or (combinations (scans_of (plan_of q).plan)) t [])) ≡ Fine
+      → check_of (with_scans (plan_of q).plan (get_or (combinations (scans_of (plan_of q).plan)) t [])) ≡ Ok tt
   listed-all-pass = listed-passes (plan_of q).plan plan-fits plan-passes

@@ -7,7 +7,7 @@ use native.Mathlib.Nat.{add-zero, add_assoc, not-suc-le-zero, le_of_suc-le-suc}
 use borrow.Author.Tests.{leb-false, not-false}
 use lib.ListN.{length, get_or, take}
 use lib.Seq.{append_snoc}
-use Rattle.refusal.specs.declared.Verdict.TheVariants.{Fine}
+use Rattle.std.specs.Prelude.{Ok}
 use Rattle.refusal.specs.Verdict.{refuse_if}
 use Rattle.refusal.proofs.Fine.{refuse-fine, or-fine}
 use Rattle.refusal.proofs.First.{each-passes, each_number}
@@ -35,7 +35,7 @@ scan-at before (s ∷ l) c zero z d h = rw (append-nil, add-zero)
 scan-at before (s ∷ l) c (suc j) z d h = scan-at (before ++ (s ∷ [])) l (c + constants_in s.value) j z d (le_of_suc-le-suc h) ∙ rw (append_snoc, add_assoc)
 
 -- 16: no statement binds one variable twice
-pub bound-once : (before l : List Statement) (i : ℕ) → bound_twice_fault before l i ≡ Fine
+pub bound-once : (before l : List Statement) (i : ℕ) → bound_twice_fault before l i ≡ Ok tt
     → (j : ℕ) (d : Statement) → j < length l → binds_twice (before ++ take j l) (get_or l j d) ≡ false
 unfolding bound_twice_fault
 bound-once before [] i e j d h = absurd (not-suc-le-zero h)
@@ -44,11 +44,11 @@ bound-once before (s ∷ l) i e (suc j) d h =
     rw append_snoc at (bound-once (before ++ (s ∷ [])) l (i + 1) (or-fine (refuse_if (binds_twice before s) 16 i) _ e).1 j d (le_of_suc-le-suc h))
 
 -- 14: each select names a variable
-pub selects-below : (n : ℕ) (vs : List Var) (i : ℕ) → selects_fault n vs i ≡ Fine → (j : ℕ) (d : Var) → j < length vs → (get_or vs j d).0 < n
+pub selects-below : (n : ℕ) (vs : List Var) (i : ℕ) → selects_fault n vs i ≡ Ok tt → (j : ℕ) (d : Var) → j < length vs → (get_or vs j d).0 < n
 unfolding selects_fault
 selects-below n vs i e j d h = leb-false _ _ ((each-passes _ _ d i vs).0 e j h)
 
 -- 15: each variable is named
-pub all_named : (ss : List Statement) (left v : ℕ) → unused_fault ss left v ≡ Fine → (j : ℕ) → j < left → named ss (v + j) ≡ true
+pub all_named : (ss : List Statement) (left v : ℕ) → unused_fault ss left v ≡ Ok tt → (j : ℕ) → j < left → named ss (v + j) ≡ true
 unfolding unused_fault
 all_named ss left v e j h = not-false _ ((each_number _ _ v v left).0 e j h)

@@ -10,7 +10,7 @@ use lib.ListN.{length, get_or, take, length-map, get_or-map}
 use lib.Seq.{take-suc, take-length, length-take-le}
 use lib.Dec.{leb}
 use Rattle.capacity.specs.Capacity.{max_statements, max_scans, max_slots, max_selects}
-use Rattle.refusal.specs.declared.Verdict.TheVariants.{Fine}
+use Rattle.std.specs.Prelude.{Ok}
 use Rattle.refusal.proofs.Fine.{or-fine}
 use Rattle.lists.proofs.Padded.{padded-take}
 use Rattle.query.specs.declared.Var.{Var}
@@ -57,7 +57,7 @@ room ss j d h =
 
 module _ (n : ℕ) (ss : List Statement) where
   -- 14 and 16: each scan fits
-  each_fits : statements_fault n ss 0 ≡ Fine → bound_twice_fault [] ss 0 ≡ Fine → (j : ℕ) → j < length (scans_for [] ss n)
+  each_fits : statements_fault n ss 0 ≡ Ok tt → bound_twice_fault [] ss 0 ≡ Ok tt → (j : ℕ) → j < length (scans_for [] ss n)
       → Fits (slots_for n ss) (take j (scans_for [] ss n)) (get_or (scans_for [] ss n) j zero_scan)
   each_fits low once j h =
       let z = zero_statement in
@@ -68,7 +68,7 @@ module _ (n : ℕ) (ss : List Statement) where
       (omega (arith, room ss j z here)))
 
   -- 15: each slot is set
-  each_set : unused_fault ss n 0 ≡ Fine → (k : ℕ) → k < n + constants ss → is_set (slots_for n ss) (scans_for [] ss n) k ≡ true
+  each_set : unused_fault ss n 0 ≡ Ok tt → (k : ℕ) → k < n + constants ss → is_set (slots_for n ss) (scans_for [] ss n) k ≡ true
   each_set used k h = go (leb n k) refl
     where
       go : (b : Bool) → leb n k ≡ b → is_set (slots_for n ss) (scans_for [] ss n) k ≡ true
@@ -76,16 +76,16 @@ module _ (n : ℕ) (ss : List Statement) where
       go false e = let l : k < n = leb-false _ _ e in variable-set n ss ss n k l ∙ rw zero-add at (all_named ss n 0 used k l)
 
 -- 14: each select is a slot
-each-selected : (n : ℕ) (vs : List Var) (i : ℕ) → selects_fault n vs i ≡ Fine → (j : ℕ) → j < length (map slot_of vs)
+each-selected : (n : ℕ) (vs : List Var) (i : ℕ) → selects_fault n vs i ≡ Ok tt → (j : ℕ) → j < length (map slot_of vs)
     → (get_or (map slot_of vs) j zero_slot).0 < n
 each-selected n vs i low j h =
     let here : j < length vs = rw length-map at h in
     rw (get_or-map slot_of vs j zero_var) (selects-below n vs i low j zero_var here)
 
 module _ (q : Query) (statements_sized : length q.where_statements.items ≡ max_statements) (selects_sized : length q.select.items ≡ max_selects)
-    (fine : query_fault q ≡ Fine) where
+    (fine : query_fault q ≡ Ok tt) where
   -- 10 to 16: the plan is as promised
-  pub plan-promised : bound_twice_fault [] (statements_of q) 0 ≡ Fine → Promised (plan_for q (statements_of q))
+  pub plan-promised : bound_twice_fault [] (statements_of q) 0 ≡ Ok tt → Promised (plan_for q (statements_of q))
   unfolding plan_for query_fault variables_fault
   plan-promised once =
       let n = q.variable_count in

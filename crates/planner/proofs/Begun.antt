@@ -7,8 +7,8 @@ use native.Mathlib.Numerals.{add-one}
 use native.Mathlib.Omega.{arith}
 use lib.ListN.{length, get_or, set, take, drop, replicate}
 use lib.Seq.{take-suc, length-take-le, get_or-take}
-use Rattle.capacity.specs.Capacity.{max_statements, max_scans, max_slots}
-use Rattle.refusal.specs.declared.Verdict.TheVariants.{Fine}
+use Rattle.capacity.specs.Capacity.{max_scans, max_slots}
+use Rattle.std.specs.Prelude.{Ok}
 use Rattle.refusal.specs.Verdict.{refused}
 use Rattle.lists.specs.Padded.{padded}
 use Rattle.lists.proofs.Padded.{padded-none, padded-more}
@@ -38,18 +38,18 @@ pub record Begun (variables n : ℕ) (items : List Statement) (rec : List Bool) 
 abbrev pub statement_at : List Statement → ℕ → Statement
 statement_at items i = get_or items i zero_statement
 
-module _ (variables n : ℕ) (items : List Statement) (fits : Plannable variables n items) (long : length items ≡ max_statements) where
+module _ (variables n : ℕ) (items : List Statement) (fits : Plannable variables n items) (long : n ≤ length items) where
   pub begun-none : Begun variables n items (replicate max_slots false) (replicate max_scans zero_scan) variables 0
   unfolding scans_for constants
   begun-none = record { within = omega arith; tracks = tracks-none; made = sym (padded-none zero_scan max_scans); slots = omega arith; fine = refl }
 
   module _ {rec : List Bool} {scans : List Scan} {next i : ℕ} (b : Begun variables n items rec scans next i) where
     -- past the last statement all have their scans
-    pub begun_all : n ≤ i → record { verdict = Fine; scans = scans; slot_count = next } ≡ initialized_of variables (take n items)
+    pub begun_all : n ≤ i → record { verdict = Ok tt; scans = scans; slot_count = next } ≡ initialized_of variables (take n items)
     unfolding initialized_of bound_twice_fault
     begun_all h =
         let e : i ≡ n = omega (arith, b.within) in
-        let f : bound_twice_fault [] (take n items) 0 ≡ Fine = b.fine ∙ rw (walk_end items n (omega (arith, fits.few_statements)) i h) in
+        let f : bound_twice_fault [] (take n items) 0 ≡ Ok tt = b.fine ∙ rw (walk_end items n (omega (arith, fits.few_statements)) i h) in
         rw (f, b.made, b.slots, e)
 
     module _ (h : i < n) where

@@ -1,3 +1,4 @@
+pub mod Answered
 pub mod Statements
 pub mod Tracks
 pub mod Begun

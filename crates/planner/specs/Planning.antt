@@ -1,8 +1,8 @@
 -- 01, "How a query becomes a plan".
 use Rattle.std.specs.Prelude.{ℕ, ◌+◌, List, [], ◌∷◌, ◌++◌, map, Bool, true, false, replicate}
 use Rattle.capacity.specs.Capacity.{max_scans, max_slots, max_selects}
-use Rattle.refusal.specs.declared.Verdict.{Verdict}
-use Rattle.refusal.specs.declared.Verdict.TheVariants.{Fine}
+use Rattle.refusal.specs.Verdict.{Verdict}
+use Rattle.std.specs.Prelude.{Ok}
 use Rattle.refusal.specs.Verdict.{unless}
 use Rattle.lists.specs.Padded.{padded}
 use Rattle.datom.specs.declared.Aid.{Aid}
@@ -21,8 +21,8 @@ use Rattle.plan.specs.declared.Index.TheVariants.{Aevt, Avet}
 use Rattle.plan.specs.declared.Flow.TheVariants.{OutOut, InOut, InIn}
 use Rattle.plan.specs.Plan.{zero_slot, zero_scan, variable_slot, empty_plan}
 use Rattle.query_check.specs.Refusals.{constants_in, constants}
-use Rattle.planner.specs.declared.Planned.{Planned}
-use Rattle.planner.specs.declared.Initialized.{Initialized}
+use Rattle.planner.specs.Answered.{Planned}
+use Rattle.planner.specs.Answered.{Initialized}
 use Rattle.planner.specs.Refusals.{bound_twice_fault, plan_fault}
 
 -- variable i is slot i
@@ -76,7 +76,7 @@ not_initialized v = record { verdict = v; scans = replicate max_scans zero_scan;
 unfoldable pub initialized_of : ℕ → List Statement → Initialized
 initialized_of n ss =
     unless (bound_twice_fault [] ss 0) not_initialized
-    (record { verdict = Fine; scans = padded zero_scan max_scans (scans_for [] ss n); slot_count = n + constants ss })
+    (record { verdict = Ok tt; scans = padded zero_scan max_scans (scans_for [] ss n); slot_count = n + constants ss })
 
 -- the plan of a query and its statements, as given or in another order: past its counts variable slots, out-out aevt scans and selects,
 -- all numbers 0
@@ -94,4 +94,4 @@ plan_for q ss = record {
 unfoldable pub plan_of : Query → Planned
 plan_of q =
     unless (plan_fault q) (λ v. record { verdict = v; plan = empty_plan })
-    (record { verdict = Fine; plan = plan_for q (statements_of q) })
+    (record { verdict = Ok tt; plan = plan_for q (statements_of q) })

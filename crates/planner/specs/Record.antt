@@ -2,7 +2,7 @@
 -- it says which variables the statements so far name.
 use Rattle.std.specs.Prelude.{◌≡◌, ℕ, ◌+◌, ◌≤◌, List, Bool, true, false, not, ◌&&◌, get_or, set, take}
 use Rattle.capacity.specs.Capacity.{max_statements, max_slots}
-use Rattle.refusal.specs.declared.Verdict.TheVariants.{Fine}
+use Rattle.std.specs.Prelude.{Ok}
 use Rattle.query.specs.declared.QueryValue.{QueryValue}
 use Rattle.query.specs.declared.QueryValue.TheVariants.{Const, Var as Variable}
 use Rattle.query.specs.declared.Statement.{Statement}
@@ -17,7 +17,7 @@ use Rattle.planner.specs.Planning.{slot_of, value_slot, scan_for}
 pub record Plannable (variables count : ℕ) (items : List Statement) : Type 0 where
   pub few_statements : count ≤ max_statements
   pub few_slots : variables + constants (take count items) ≤ max_slots
-  pub low : statements_fault variables (take count items) 0 ≡ Fine
+  pub low : statements_fault variables (take count items) 0 ≡ Ok tt
 
 abbrev pub is_value_set_in : List Bool → QueryValue → Bool
 is_value_set_in rec (Const c) = true

@@ -6,7 +6,7 @@ use mathlib.Core.List.{List, []}
 use borrow.Author.Tests.{lt-ltb}
 use lib.ListN.{length}
 use Rattle.capacity.specs.Capacity.{max_statements, max_selects}
-use Rattle.refusal.specs.declared.Verdict.TheVariants.{Fine}
+use Rattle.std.specs.Prelude.{Ok}
 use Rattle.refusal.specs.Verdict.{refused, or_else, unless}
 use Rattle.lists.proofs.Padded.{padded-front}
 use Rattle.query.specs.declared.Var.{Var}
@@ -16,7 +16,7 @@ use Rattle.query.specs.Query.{statements_of, selects_of, zero_var, zero_statemen
 use Rattle.query_check.specs.Refusals.{capacity_fault, variables_fault, query_fault}
 use Rattle.plan.specs.declared.Plan.{Plan}
 use Rattle.plan.specs.Plan.{empty_plan}
-use Rattle.planner.specs.declared.Planned.{Planned}
+use Rattle.planner.specs.Answered.{Planned}
 use Rattle.planner.specs.Refusals.{bound_twice_fault, plan_fault}
 use Rattle.planner.specs.Planning.{plan_for, plan_of}
 use Rattle.planner_lent.specs.Lent.{read_statements, read_selects, query_of, plan_lent}
@@ -44,7 +44,7 @@ plan-alike q r k c d v = λ i ss. alike ss i
 abbrev plan_parts : ℕ → ℕ → List Statement → ℕ → List Var → (List Statement → Plan) → Planned
 plan_parts n statements ss selects vs planOn =
     unless (or_else (or_else (capacity_fault n statements ss selects) (variables_fault n statements ss vs)) (bound_twice_fault [] ss 0))
-    (λ v. record { verdict = v; plan = empty_plan }) (record { verdict = Fine; plan = planOn ss })
+    (λ v. record { verdict = v; plan = empty_plan }) (record { verdict = Ok tt; plan = planOn ss })
 
 plan-parts : (q : Query)
     → plan_of q ≡ plan_parts q.variable_count q.where_statements.count (statements_of q) q.select.count (selects_of q) (plan_for q)

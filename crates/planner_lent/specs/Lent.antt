@@ -1,5 +1,5 @@
 -- 01, "What crosses the counter": what is read of the statements and selects that are lent, and what planning answers of them.
-use Rattle.std.specs.Prelude.{ℕ, ◌+◌, List, length, set}
+use Rattle.std.specs.Prelude.{ℕ, List, length}
 use Rattle.capacity.specs.Capacity.{max_statements, max_selects}
 use Rattle.lists.specs.Padded.{padded}
 use Rattle.query.specs.declared.Var.{Var}
@@ -8,7 +8,7 @@ use Rattle.query.specs.declared.Statements.{Statements}
 use Rattle.query.specs.declared.Selects.{Selects}
 use Rattle.query.specs.declared.Query.{Query}
 use Rattle.query.specs.Query.{zero_var, zero_statement}
-use Rattle.planner.specs.declared.Planned.{Planned}
+use Rattle.planner.specs.Answered.{Planned}
 use Rattle.planner.specs.Planning.{plan_of}
 
 -- as many as fit, and the count of all
@@ -17,13 +17,6 @@ read_statements ss = record { items = padded zero_statement max_statements ss; c
 
 abbrev pub read_selects : List Var → Selects
 read_selects vs = record { items = padded zero_var max_selects vs; count = length vs }
-
--- one more: past the array only the count grows
-abbrev pub pushed_statement : Statements → Statement → Statements
-pushed_statement st s = record { items = set st.items st.count s; count = st.count + 1 }
-
-abbrev pub pushed_select : Selects → Var → Selects
-pushed_select st v = record { items = set st.items st.count v; count = st.count + 1 }
 
 abbrev pub query_of : ℕ → Statements → Selects → Query
 query_of n st vs = record { variable_count = n; where_statements = st; select = vs }

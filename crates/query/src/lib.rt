@@ -19,11 +19,11 @@ use datom::Aid;
 //
 // Variables can be named, but the names are specified separately; internally variables are referenced by index. No query has u16::MAX
 // variables, and no plan so many slots: readers take a number past it for that one.
-#[derive(Clone, Copy)]
+#[derive(Clone, Copy, PartialEq, Eq)]
 pub struct Var(pub u16);
 
 // The value in a query can be a constant or a variable.
-#[derive(Clone, Copy)]
+#[derive(Clone, Copy, PartialEq, Eq)]
 pub enum QueryValue {
     Const(u64),
     Var(Var),

@@ -1,25 +1,17 @@
--- What it says that the capacities are fine, and the room for variables beside constants.
-use mathlib.Core.Path.{◌≡◌, refl}
-use Prim.Native.Nat.{ℕ, ◌+◌, ◌-◌, ◌≤◌, ◌<◌}
-use mathlib.Core.Bool.{Bool, true, false, not}
+-- What it says that the capacities are fine.
+use mathlib.Core.Path.{◌≡◌}
+use Prim.Native.Nat.{ℕ, ◌+◌, ◌≤◌, ◌<◌}
+use mathlib.Core.Bool.{false}
 use mathlib.Core.List.{List}
 use native.Mathlib.Omega.{arith}
-use borrow.Author.Tests.{ltb-true, ltb-false, eqb-false, le-leb, lt-leb}
-use lib.Dec.{ltb, leb, eqb}
+use borrow.Author.Tests.{ltb-false, eqb-false}
+use lib.Dec.{ltb, eqb}
 use Rattle.capacity.specs.Capacity.{max_statements, max_slots, max_selects}
-use Rattle.refusal.specs.declared.Verdict.TheVariants.{Fine}
+use Rattle.std.specs.Prelude.{Ok}
 use Rattle.refusal.specs.Verdict.{refuse_if}
 use Rattle.refusal.proofs.Fine.{refuse-fine, or-fine}
 use Rattle.query.specs.declared.Statement.{Statement}
 use Rattle.query_check.specs.Refusals.{constants, capacity_fault}
-
--- a sum fits where the first is no more than what the second leaves
-pub room : (m a b : ℕ) → b ≤ m → leb a (m - b) ≡ not (ltb m (a + b))
-room m a b h = go (ltb m (a + b)) refl
-  where
-    go : (t : Bool) → ltb m (a + b) ≡ t → leb a (m - b) ≡ not t
-    go true e = let q : m - b < a = omega (arith, ltb-true m (a + b) e) in lt-leb _ _ q
-    go false e = let q : a ≤ m - b = omega (arith, ltb-false m (a + b) e) in le-leb _ _ q
 
 -- the counts are within the capacities, and something is selected
 pub record Fits (variables statements : ℕ) (ss : List Statement) (selects : ℕ) : Type 0 where
@@ -28,7 +20,7 @@ pub record Fits (variables statements : ℕ) (ss : List Statement) (selects : �
   pub few_selects : selects ≤ max_selects
   pub some_select : 0 < selects
 
-pub capacity_fine : (variables statements : ℕ) (ss : List Statement) (selects : ℕ) → capacity_fault variables statements ss selects ≡ Fine
+pub capacity_fine : (variables statements : ℕ) (ss : List Statement) (selects : ℕ) → capacity_fault variables statements ss selects ≡ Ok tt
     → Fits variables statements ss selects
 unfolding capacity_fault
 capacity_fine variables statements ss selects e =

@@ -1,3 +1,4 @@
+pub mod Walks
 pub mod Constants
 pub mod Capacity
 pub mod Variables

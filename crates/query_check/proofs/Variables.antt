@@ -8,7 +8,7 @@ use borrow.Author.Tests.{leb-false}
 use lib.ListN.{length, get_or}
 use lib.Dec.{leb}
 use Rattle.lists.proofs.Tests.{neither}
-use Rattle.refusal.specs.declared.Verdict.TheVariants.{Fine}
+use Rattle.std.specs.Prelude.{Ok}
 use Rattle.refusal.proofs.First.{each-passes}
 use Rattle.query.specs.declared.QueryValue.{QueryValue}
 use Rattle.query.specs.declared.QueryValue.TheVariants.{Const, Var as Variable}
@@ -21,7 +21,7 @@ value_low n (Const c) e = tt
 value_low n (Variable x) e = leb-false _ _ e
 
 -- each statement names variables below the count
-pub statements-below : (n : ℕ) (ss : List Statement) (i : ℕ) → statements_fault n ss i ≡ Fine → (j : ℕ) (d : Statement) → j < length ss → Below n (get_or ss j d)
+pub statements-below : (n : ℕ) (ss : List Statement) (i : ℕ) → statements_fault n ss i ≡ Ok tt → (j : ℕ) (d : Statement) → j < length ss → Below n (get_or ss j d)
 unfolding statements_fault
 statements-below n ss i e j d h =
     let s = get_or ss j d in

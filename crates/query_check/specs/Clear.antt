@@ -1,7 +1,7 @@
 -- A query as the code holds it, clear of 10 to 15.
 use Rattle.std.specs.Prelude.{◌≡◌, length}
 use Rattle.capacity.specs.Capacity.{max_statements, max_selects}
-use Rattle.refusal.specs.declared.Verdict.TheVariants.{Fine}
+use Rattle.std.specs.Prelude.{Ok}
 use Rattle.query.specs.declared.Query.{Query}
 use Rattle.query_check.specs.Refusals.{query_fault}
 
@@ -9,4 +9,4 @@ use Rattle.query_check.specs.Refusals.{query_fault}
 pub record Clear (q : Query) : Type 0 where
   pub statements_sized : length q.where_statements.items ≡ max_statements
   pub selects_sized : length q.select.items ≡ max_selects
-  pub fine : query_fault q ≡ Fine
+  pub fine : query_fault q ≡ Ok tt

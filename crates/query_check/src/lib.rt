@@ -2,107 +2,71 @@
 // of this, and takes a variable number at or above the count for a constant's slot.
 #![tactic(auto)]
 
-ghost use Rattle.std.specs.Prelude.{◌≡◌, ◌≤◌, ◌+◌, not, ltb, take};
+ghost use Rattle.std.specs.Prelude.{◌≡◌, ◌≤◌, ◌+◌, not, ltb, length};
 ghost use Rattle.capacity.specs.Capacity.{max_statements, max_slots, max_selects};
-ghost use Rattle.query.specs.Query.{names, named};
+ghost use Rattle.query.specs.Query.{names, named, statements_of};
 ghost use Rattle.query_check.specs.Refusals.{constants_in, constants, high, statements_fault, selects_fault, unused_fault, capacity_fault, variables_fault, query_fault};
 
 use capacity::{MAX_SELECTS, MAX_SLOTS, MAX_STATEMENTS};
 use query::{Query, QueryValue, Statement, Var};
-use refusal::{Verdict, refuse};
+use refusal::{Rule, Verdict, refuse};
 
 // Check that a query can be planned or searched: 10 to 15.
+#[tactic(auto, unfolding(crate::specs::Refusals::query_fault))]
 pub fn check_query(query: Query) -> Verdict
     ensures { result ≡ query_fault query }
 {
-    let statements = query.where_statements;
-    let select = query.select;
-    let variable_count = query.variable_count;
-    let statement_count = statements.count;
-    let select_count = select.count;
-    let items = statements.items;
-    let capacity = check_capacity(variable_count, statement_count, items, select_count);
-    if let Verdict::Refused(_) = capacity {
-        return capacity;
-    }
-    let chosen = select.items;
-    let variables = variable_count as usize;
-    check_variables(variables, statement_count, items, select_count, chosen)
+    check_capacity(&query)?;
+    let statements = &query.where_statements.items[..query.where_statements.count];
+    let select = &query.select.items[..query.select.count];
+    check_variables(query.variable_count as usize, statements, select)
 }
 
 // 10 to 13: the counts are within the capacities, and something is selected.
 #[tactic(auto, unfolding(crate::specs::Refusals::capacity_fault))]
-fn check_capacity(
-    variable_count: u64,
-    statement_count: usize,
-    items: [Statement; MAX_STATEMENTS],
-    select_count: usize,
-) -> Verdict
-    ensures { result ≡ capacity_fault variable_count statement_count (take statement_count items) select_count }
+fn check_capacity(query: &Query) -> Verdict
+    ensures { result ≡ capacity_fault query.now.variable_count query.now.where_statements.count (statements_of query.now) query.now.select.count }
 {
-    if MAX_STATEMENTS < statement_count {
-        return refuse(refusal::TOO_MANY_STATEMENTS, 0);
+    if MAX_STATEMENTS < query.where_statements.count {
+        return refuse(Rule::TooManyStatements, 0);
     }
-    let constant_count = count_constants(items, statement_count);
-    if !has_room(variable_count, constant_count) {
-        return refuse(refusal::TOO_MANY_SLOTS, 0);
+    let statements = &query.where_statements.items[..query.where_statements.count];
+    if !has_room(query.variable_count, count_constants(statements)) {
+        return refuse(Rule::TooManySlots, 0);
     }
-    if MAX_SELECTS < select_count {
-        return refuse(refusal::TOO_MANY_SELECTS, 0);
+    if MAX_SELECTS < query.select.count {
+        return refuse(Rule::TooManySelects, 0);
     }
-    if select_count == 0 {
-        return refuse(refusal::NO_SELECTS, 0);
+    if query.select.count == 0 {
+        return refuse(Rule::NoSelects, 0);
     }
-    Verdict::Fine
+    Ok(())
 }
 
 // Whether there is a slot for each variable and constant. Their sum may not fit a number.
 fn has_room(variable_count: u64, constant_count: usize) -> bool
     ensures { result ≡ not (ltb max_slots (variable_count + constant_count)) }
 {
-    if MAX_SLOTS < constant_count {
-        return false;
-    }
-    variable_count <= (MAX_SLOTS - constant_count) as u64
+    constant_count <= MAX_SLOTS && variable_count <= (MAX_SLOTS - constant_count) as u64
 }
 
 // 14 and 15: statements and selects name variables of the query, and every variable is named.
-fn check_variables(
-    variables: usize,
-    statement_count: usize,
-    items: [Statement; MAX_STATEMENTS],
-    select_count: usize,
-    chosen: [Var; MAX_SELECTS],
-) -> Verdict
-    requires { (statement_count ≤ max_statements) × (select_count ≤ max_selects) × (variables ≤ max_slots) }
-    ensures { result ≡ variables_fault variables statement_count (take statement_count items) (take select_count chosen) }
+#[tactic(auto, unfolding(crate::specs::Refusals::variables_fault))]
+fn check_variables(variables: usize, statements: &[Statement], select: &[Var]) -> Verdict
+    requires { (length statements.now ≤ max_statements) × (length select.now ≤ max_selects) × (variables ≤ max_slots) }
+    ensures { result ≡ variables_fault variables (length statements.now) statements.now select.now }
 {
-    let statements = check_statements(items, statement_count, variables);
-    if let Verdict::Refused(_) = statements {
-        return statements;
-    }
-    let selects = check_selects(chosen, select_count, variables, statement_count);
-    if let Verdict::Refused(_) = selects {
-        return selects;
-    }
-    check_all_named(items, statement_count, variables)
+    check_statements(statements, variables)?;
+    check_selects(select, variables, statements.len())?;
+    check_all_named(statements, variables)
 }
 
 // How many of the statements have a constant.
-fn count_constants(items: [Statement; MAX_STATEMENTS], count: usize) -> usize
-    requires { count ≤ max_statements }
-    ensures { result ≡ constants (take count items) }
+fn count_constants(statements: &[Statement]) -> usize
+    requires { length statements.now ≤ max_statements }
+    ensures { result ≡ constants statements.now }
 {
-    let mut constant_count = 0;
-    let mut i = count;
-    while 0 < i {
-        let j = i - 1;
-        let statement = items[j];
-        let value = statement.value;
-        constant_count += constants_in(value);
-        i = j;
-    }
-    constant_count
+    statements.iter().map(|s| constants_in(s.value)).sum()
 }
 
 // 1 if the value is a constant.
@@ -116,96 +80,59 @@ pub fn constants_in(value: QueryValue) -> usize
 }
 
 // 14: the lowest statement with a variable that is not below the count.
-fn check_statements(items: [Statement; MAX_STATEMENTS], count: usize, variables: usize) -> Verdict
-    requires { count ≤ max_statements }
-    ensures { result ≡ statements_fault variables (take count items) 0 }
+fn check_statements(statements: &[Statement], variables: usize) -> Verdict
+    ensures { result ≡ statements_fault variables statements.now 0 }
 {
-    let mut i = 0;
-    while i < count {
-        let statement = items[i];
-        if is_high(statement, variables) {
-            return refuse(refusal::NO_SUCH_VARIABLE, i);
+    for (i, s) in statements.iter().enumerate() {
+        if is_high(s, variables) {
+            return refuse(Rule::NoSuchVariable, i);
         }
-        i += 1;
     }
-    Verdict::Fine
+    Ok(())
 }
 
-fn is_high(statement: Statement, variables: usize) -> bool
-    ensures { result ≡ high variables statement }
+fn is_high(statement: &Statement, variables: usize) -> bool
+    ensures { result ≡ high variables statement.now }
 {
-    let value = statement.value;
-    if variables <= statement.entity.0 as usize {
-        return true;
-    }
-    match value {
-        QueryValue::Const(_) => false,
-        QueryValue::Var(v) => variables <= v.0 as usize,
-    }
+    variables <= statement.entity.0 as usize
+        || matches!(statement.value, QueryValue::Var(v) if variables <= v.0 as usize)
 }
 
 // 14: the lowest select that is not below the count, counted on from the statements.
-fn check_selects(
-    items: [Var; MAX_SELECTS],
-    count: usize,
-    variables: usize,
-    statement_count: usize,
-) -> Verdict
-    requires { (count ≤ max_selects) × (statement_count ≤ max_statements) }
-    ensures { result ≡ selects_fault variables (take count items) statement_count }
+fn check_selects(select: &[Var], variables: usize, statement_count: usize) -> Verdict
+    requires { (length select.now ≤ max_selects) × (statement_count ≤ max_statements) }
+    ensures { result ≡ selects_fault variables select.now statement_count }
 {
-    let mut i = 0;
-    while i < count {
-        let v = items[i];
+    for (i, v) in select.iter().enumerate() {
         if variables <= v.0 as usize {
-            return refuse(refusal::NO_SUCH_VARIABLE, statement_count + i);
+            return refuse(Rule::NoSuchVariable, statement_count + i);
         }
-        i += 1;
     }
-    Verdict::Fine
+    Ok(())
 }
 
 // 15: the lowest variable that no statement names.
-fn check_all_named(items: [Statement; MAX_STATEMENTS], count: usize, variables: usize) -> Verdict
-    requires { (count ≤ max_statements) × (variables ≤ max_slots) }
-    ensures { result ≡ unused_fault (take count items) variables 0 }
+fn check_all_named(statements: &[Statement], variables: usize) -> Verdict
+    requires { variables ≤ max_slots }
+    ensures { result ≡ unused_fault statements.now variables 0 }
 {
-    let mut v = 0;
-    while v < variables {
-        if is_named(items, count, Var(v as u16)) {
-            v += 1;
-        } else {
-            return refuse(refusal::UNUSED_VARIABLE, v);
+    for v in 0..variables {
+        if !is_named(statements, Var(v as u16)) {
+            return refuse(Rule::UnusedVariable, v);
         }
     }
-    Verdict::Fine
+    Ok(())
 }
 
-// Whether one of the first statements names a variable.
-fn is_named(items: [Statement; MAX_STATEMENTS], count: usize, v: Var) -> bool
-    requires { count ≤ max_statements }
-    ensures { result ≡ named (take count items) v.0 }
+// Whether one of the statements names a variable.
+fn is_named(statements: &[Statement], v: Var) -> bool
+    ensures { result ≡ named statements.now v.0 }
 {
-    let mut i = 0;
-    while i < count {
-        let statement = items[i];
-        if names_variable(statement, v) {
-            return true;
-        }
-        i += 1;
-    }
-    false
+    statements.iter().any(|s| names_variable(s, v))
 }
 
-fn names_variable(statement: Statement, v: Var) -> bool
-    ensures { result ≡ names statement v.0 }
+fn names_variable(statement: &Statement, v: Var) -> bool
+    ensures { result ≡ names statement.now v.0 }
 {
-    let value = statement.value;
-    if statement.entity.0 == v.0 {
-        return true;
-    }
-    match value {
-        QueryValue::Const(_) => false,
-        QueryValue::Var(x) => x.0 == v.0,
-    }
+    statement.entity == v || statement.value == QueryValue::Var(v)
 }

@@ -11,14 +11,14 @@ use Rattle.lists.specs.Span.{span}
 use Rattle.lists.proofs.Walk.{each, walk_step, walk_end}
 use Rattle.lists.proofs.Span.{length-span, get_or-span}
 use Rattle.refusal.specs.declared.Refusal.{Refusal}
-use Rattle.refusal.specs.declared.Verdict.{Verdict}
-use Rattle.refusal.specs.declared.Verdict.TheVariants.{Fine, Refused}
+use Rattle.refusal.specs.Verdict.{Verdict}
+use Rattle.std.specs.Prelude.{Ok, Err}
 use Rattle.refusal.specs.Verdict.{refused, refuse_if, first_fault, refuse_first, Lowest}
 use Rattle.refusal.proofs.Fine.{refuse-fine, or-fine}
 
 module _ {A : Type 0} (fault : ℕ → A → Verdict) where
   -- it is fine exactly if each item is
-  pub first_fine : (d : A) (p : ℕ) (xs : List A) → first_fault fault p xs ≡ Fine ↔ ((j : ℕ) → j < length xs → fault (p + j) (get_or xs j d) ≡ Fine)
+  pub first_fine : (d : A) (p : ℕ) (xs : List A) → first_fault fault p xs ≡ Ok tt ↔ ((j : ℕ) → j < length xs → fault (p + j) (get_or xs j d) ≡ Ok tt)
   unfolding first_fault
   first_fine d p [] = (λ e j h. absurd (not-suc-le-zero h), λ f. refl)
   first_fine d p (x ∷ xs) =
@@ -26,7 +26,7 @@ module _ {A : Type 0} (fault : ℕ → A → Verdict) where
       let on : (j : ℕ) → p + suc j ≡ p + 1 + j = λ j. omega arith in (
         λ e.
             let b = or-fine (fault p x) _ e in
-            each (λ j. fault (p + j) (get_or (x ∷ xs) j d) ≡ Fine) (length xs) (rw add-zero b.0) (λ j h. rw on (rest.0 b.1 j h)),
+            each (λ j. fault (p + j) (get_or (x ∷ xs) j d) ≡ Ok tt) (length xs) (rw add-zero b.0) (λ j h. rw on (rest.0 b.1 j h)),
         λ f. simp (rw add-zero at (f 0 (omega arith))) (rest.1 (λ j h. rw on at (f (suc j) (omega arith)))),
       )
 
@@ -38,17 +38,17 @@ pub record Walked {A : Type 0} (fault : ℕ → A → Verdict) (l : List A) (k p
 
 module _ {A : Type 0} {fault : ℕ → A → Verdict} {l : List A} {k p q i : ℕ} (w : Walked fault l k p q i) where
   -- item i is fine
-  pub walked_on : (d : A) → i < k → fault q (get_or l i d) ≡ Fine → Walked fault l k p (q + 1) (i + 1)
+  pub walked_on : (d : A) → i < k → fault q (get_or l i d) ≡ Ok tt → Walked fault l k p (q + 1) (i + 1)
   unfolding first_fault
   walked_on d h e = record { within = omega arith; fits = w.fits; rest = w.rest ∙ rw (walk_step l k w.fits d i h, e) refl }
 
   -- item i is refused
-  pub walked-found : (d : A) {r : Refusal} → i < k → fault q (get_or l i d) ≡ Refused r → first_fault fault p (take k l) ≡ Refused r
+  pub walked-found : (d : A) {r : Refusal} → i < k → fault q (get_or l i d) ≡ Err r → first_fault fault p (take k l) ≡ Err r
   unfolding first_fault
   walked-found d h e = w.rest ∙ rw (walk_step l k w.fits d i h, e) refl
 
   -- none is left
-  pub walked-done : k ≤ i → first_fault fault p (take k l) ≡ Fine
+  pub walked-done : k ≤ i → first_fault fault p (take k l) ≡ Ok tt
   unfolding first_fault
   walked-done h = w.rest ∙ rw (walk_end l k w.fits i h) refl
 
@@ -58,7 +58,7 @@ Fails test d xs i = (i < length xs) × (test (get_or xs i d) ≡ true)
 
 module _ {A : Type 0} (test : A → Bool) (n : ℕ) (d : A) where
   -- fine exactly if each passes
-  pub each-passes : (p : ℕ) (xs : List A) → refuse_first test n p xs ≡ Fine ↔ ((j : ℕ) → j < length xs → test (get_or xs j d) ≡ false)
+  pub each-passes : (p : ℕ) (xs : List A) → refuse_first test n p xs ≡ Ok tt ↔ ((j : ℕ) → j < length xs → test (get_or xs j d) ≡ false)
   unfolding refuse_first
   each-passes p xs =
       let fine = first_fine (λ i x. refuse_if (test x) n i) d p xs in
@@ -76,7 +76,7 @@ module _ {A : Type 0} (test : A → Bool) (n : ℕ) (d : A) where
 
   -- where P says of each place that its item fails: fine, and so of none, or refused at the lowest place of which it is so
   abbrev pub Judged : (ℕ → Type 0) → ℕ → List A → Type 0
-  Judged P p xs = ((refuse_first test n p xs ≡ Fine) × ((j : ℕ) → P j → ⊥)) ⊎ ((i : ℕ) × Lowest P i × (refuse_first test n p xs ≡ refused n (p + i)))
+  Judged P p xs = ((refuse_first test n p xs ≡ Ok tt) × ((j : ℕ) → P j → ⊥)) ⊎ ((i : ℕ) × Lowest P i × (refuse_first test n p xs ≡ refused n (p + i)))
 
   pub refused-lowest : (P : ℕ → Type 0) (p : ℕ) (xs : List A) → ((j : ℕ) → P j ↔ Fails test d xs j) → Judged P p xs
   unfolding refuse_first first_fault
@@ -99,7 +99,7 @@ module _ {A : Type 0} (test : A → Bool) (n : ℕ) (d : A) where
           rest
 
 -- numbers one after the other: fine exactly if each passes
-pub each_number : (test : ℕ → Bool) (n p a m : ℕ) → refuse_first test n p (span a m) ≡ Fine ↔ ((j : ℕ) → j < m → test (a + j) ≡ false)
+pub each_number : (test : ℕ → Bool) (n p a m : ℕ) → refuse_first test n p (span a m) ≡ Ok tt ↔ ((j : ℕ) → j < m → test (a + j) ≡ false)
 each_number test n p a m =
     let passes = each-passes test n 0 p (span a m) in
     let long = length-span a m in (

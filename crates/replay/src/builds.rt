@@ -1,59 +1,31 @@
 // Cases of `replay`: a heap of triples (`given`, as a table), and the lengths of three buffers. Written are the builder's answer and the buffers whole,
 // so that words past the result are seen to stay. compare/builds.rs makes cases and answers.
 use replay_given::given::TABLE_WORDS;
-use replay_given::written::put;
-use replay_given::{given, numbers, written};
+use replay_given::numbers::Numbers;
+use replay_given::written::{Words, said};
 use std::io;
 use std::io::Stdout;
 
 // What a buffer holds before.
 const AS_IT_WAS: u64 = 77;
 
-// The heap that begins at a place, and the lengths of the buffers. Returns where to read on.
-pub(crate) fn put_case(to: Stdout, text: &[u8], start: usize) -> io::Result<usize> {
-    let heap = given::read_table(text, start);
-    let words = heap.words;
-    let aevt = numbers::number_at(text, heap.next);
-    let avet = numbers::number_at(text, aevt.next);
-    let eavt = numbers::number_at(text, avet.next);
-    put_built_in(to, words, heap.length, aevt.value, avet.value, eavt.value)?;
-    Ok(eavt.next)
-}
-
-// The tables of the first words of a heap, in buffers of these lengths.
-fn put_built_in(
-    to: Stdout,
-    heap: [u64; TABLE_WORDS],
-    length: usize,
-    aevt: u64,
-    avet: u64,
-    eavt: u64,
-) -> io::Result<()> {
-    let room = TABLE_WORDS as u64;
-    if TABLE_WORDS < length {
-        return Ok(());
-    }
-    if room < aevt {
-        return Ok(());
-    }
-    if room < avet {
-        return Ok(());
-    }
-    if room < eavt {
-        return Ok(());
-    }
+// A heap, and the lengths of the buffers.
+pub(crate) fn put_case(to: Stdout, numbers: &mut Numbers) -> io::Result<()> {
+    let mut room = [0; TABLE_WORDS];
+    let heap = numbers.table(&mut room);
     let mut first = [AS_IT_WAS; TABLE_WORDS];
     let mut second = [AS_IT_WAS; TABLE_WORDS];
     let mut third = [AS_IT_WAS; TABLE_WORDS];
-    put_built(
-        to,
-        &heap[..length],
-        &mut first[..aevt as usize],
-        &mut second[..avet as usize],
-        &mut third[..eavt as usize],
-    )
+    let aevt = first.get_mut(..numbers.number() as usize);
+    let avet = second.get_mut(..numbers.number() as usize);
+    let eavt = third.get_mut(..numbers.number() as usize);
+    if let (Some(aevt), Some(avet), Some(eavt)) = (aevt, avet, eavt) {
+        put_built(to, heap, aevt, avet, eavt)?;
+    }
+    Ok(())
 }
 
+// The tables of a heap, built into these buffers.
 fn put_built(
     to: Stdout,
     heap: &[u64],
@@ -62,16 +34,7 @@ fn put_built(
     eavt: &mut [u64],
 ) -> io::Result<()> {
     let built = tables_build::build(heap, aevt, avet, eavt);
-    let verdict = built.verdict;
-    put(to, b"built ")?;
-    written::put_verdict(to, verdict)?;
-    put(to, b", rows ")?;
-    written::put_number(to, built.count as u64)?;
-    put(to, b",")?;
-    written::put_words(to, aevt)?;
-    put(to, b",")?;
-    written::put_words(to, avet)?;
-    put(to, b",")?;
-    written::put_words(to, eavt)?;
-    put(to, b"\n")
+    let rows = built.unwrap_or(0);
+    print!(to; "built {}, rows {rows},", said(built.map(|_| ())))?;
+    println!(to; "{},{},{}", Words(aevt), Words(avet), Words(eavt))
 }

@@ -1,5 +1,5 @@
 // What the cases of `replay` and the benchmarks read, and what the cases write: decimal numbers in a text (`numbers`); queries, plans and
-// tables given as such numbers (`given`); numbers, refusals and plans on standard output (`written`).
+// tables given as such numbers (`given`); answers, plans and words as they are written (`written`).
 #![tactic(auto)]
 
 pub mod given;

@@ -1,122 +1,98 @@
-// For the cases of `replay`: numbers, refusals and plans written to standard output.
-use capacity::{MAX_SCANS, MAX_SELECTS, MAX_SLOTS};
-use plan::{Plan, Scan, Slot, SlotDefinition};
+// For the cases of `replay`: how answers, plans and words are written.
+use plan::{Plan, Scan, SlotDefinition};
 use refusal::{Refusal, Verdict};
-use std::io;
-use std::io::Stdout;
+use std::fmt;
+use std::fmt::Display;
 
-pub fn put(to: Stdout, text: &[u8]) -> io::Result<()> {
-    to.write_all(text)
-}
+// What a call answers: a value, or its refusal.
+#[derive(Drop)]
+pub struct Answer<T>(pub Result<T, Refusal>);
 
-pub fn put_number(to: Stdout, value: u64) -> io::Result<()> {
-    to.print(value)
-}
-
-// A number, with a space before it.
-pub fn put_after(to: Stdout, value: u64) -> io::Result<()> {
-    put(to, b" ")?;
-    put_number(to, value)
-}
-
-pub fn put_words(to: Stdout, words: &[u64]) -> io::Result<()> {
-    let mut i: usize = 0;
-    while i < words.len() {
-        put_after(to, words[i])?;
-        i += 1;
-    }
-    Ok(())
-}
-
-pub fn put_refusal(to: Stdout, r: Refusal) -> io::Result<()> {
-    put(to, b"refused")?;
-    put_after(to, r.number as u64)?;
-    put(to, b" at")?;
-    put_after(to, r.place as u64)
-}
-
-pub fn put_verdict(to: Stdout, verdict: Verdict) -> io::Result<()> {
-    match verdict {
-        Verdict::Fine => put(to, b"fine"),
-        Verdict::Refused(r) => put_refusal(to, r),
-    }
-}
-
-pub fn put_scan(to: Stdout, scan: Scan) -> io::Result<()> {
-    let index = scan.index;
-    let flow = scan.flow;
-    put(to, b"scan")?;
-    put_after(to, plan::index_code(index))?;
-    put_after(to, plan::flow_code(flow))?;
-    put_after(to, scan.entity.0 as u64)?;
-    put_after(to, scan.attribute.0)?;
-    put_after(to, scan.value.0 as u64)
-}
-
-fn put_slot(to: Stdout, definition: SlotDefinition) -> io::Result<()> {
-    match definition {
-        SlotDefinition::Variable => put(to, b"variable, "),
-        SlotDefinition::Constant(value) => {
-            put(to, b"constant")?;
-            put_after(to, value)?;
-            put(to, b", ")
+impl<T: Display> Display for Answer<T> {
+    fn fmt<W: fmt::Write>(&self, f: &mut fmt::Formatter<W>) -> fmt::Result {
+        match &self.0 {
+            Ok(value) => write!(f, "{value}"),
+            Err(r) => write!(f, "refused {} at {}", r.rule.number(), r.place),
         }
     }
 }
 
-fn put_scans(to: Stdout, scans: [Scan; MAX_SCANS], count: usize) -> io::Result<()> {
-    for i in 0..MAX_SCANS {
-        if i < count {
-            let scan = scans[i];
-            put_scan(to, scan)?;
-            put(to, b", ")?;
-        }
-    }
-    Ok(())
+// The items that count, as far as there are so many.
+pub fn counted<T>(items: &[T], count: usize) -> &[T] {
+    &items[..count.min(items.len())]
 }
 
-fn put_slots(to: Stdout, slots: [plan::SlotRecord; MAX_SLOTS], count: usize) -> io::Result<()> {
-    for i in 0..MAX_SLOTS {
-        if i < count {
-            let slot = slots[i];
-            let definition = slot.definition;
-            put_slot(to, definition)?;
-        }
-    }
-    Ok(())
+// What a check says.
+pub fn said(verdict: Verdict) -> Answer<&'static str> {
+    Answer(verdict.map(|_| "fine"))
 }
 
-fn put_selects(to: Stdout, select: [Slot; MAX_SELECTS], count: usize) -> io::Result<()> {
-    for i in 0..MAX_SELECTS {
-        if i < count {
-            if 0 < i {
-                put(to, b", ")?;
+// Words, with a space before each.
+#[derive(Drop)]
+pub struct Words<'a, T>(pub &'a [T]);
+
+impl<'a, T: Display> Display for Words<'a, T> {
+    fn fmt<W: fmt::Write>(&self, f: &mut fmt::Formatter<W>) -> fmt::Result {
+        for word in self.0 {
+            write!(f, " {word}")?;
+        }
+        Ok(())
+    }
+}
+
+#[derive(Drop)]
+pub struct WrittenScan(pub Scan);
+
+impl Display for WrittenScan {
+    fn fmt<W: fmt::Write>(&self, f: &mut fmt::Formatter<W>) -> fmt::Result {
+        let scan = self.0;
+        write!(
+            f,
+            "scan {} {} {} {} {}",
+            plan::index_code(scan.index),
+            plan::flow_code(scan.flow),
+            scan.entity.0,
+            scan.attribute.0,
+            scan.value.0
+        )
+    }
+}
+
+// The scans, slots and selects of a plan that count.
+#[derive(Drop)]
+pub struct WrittenPlan<'a>(pub &'a Plan);
+
+impl<'a> Display for WrittenPlan<'a> {
+    fn fmt<W: fmt::Write>(&self, f: &mut fmt::Formatter<W>) -> fmt::Result {
+        let plan = self.0;
+        for scan in counted(&plan.scans, plan.scan_count) {
+            write!(f, "{}, ", WrittenScan(*scan))?;
+        }
+        for slot in counted(&plan.slots, plan.slot_count) {
+            match slot.definition {
+                SlotDefinition::Variable => write!(f, "variable, ")?,
+                SlotDefinition::Constant(value) => write!(f, "constant {value}, ")?,
             }
-            put(to, b"select")?;
-            let slot = select[i];
-            put_after(to, slot.0 as u64)?;
         }
+        for (i, slot) in counted(&plan.select, plan.select_count).iter().enumerate() {
+            if 0 < i {
+                write!(f, ", ")?;
+            }
+            write!(f, "select {}", slot.0)?;
+        }
+        Ok(())
     }
-    Ok(())
 }
 
-pub fn put_plan(to: Stdout, plan: Plan) -> io::Result<()> {
-    let scans = plan.scans;
-    let slots = plan.slots;
-    let select = plan.select;
-    put_scans(to, scans, plan.scan_count)?;
-    put_slots(to, slots, plan.slot_count)?;
-    put_selects(to, select, plan.select_count)
-}
+// The indexes of scans, in one word.
+#[derive(Drop)]
+pub struct Indexes<'a>(pub &'a [Scan]);
 
-// The indexes of a plan's scans, in one word.
-pub fn put_indexes(to: Stdout, scans: [Scan; MAX_SCANS], count: usize) -> io::Result<()> {
-    for i in 0..MAX_SCANS {
-        if i < count {
-            let scan = scans[i];
-            let index = scan.index;
-            put_number(to, plan::index_code(index))?;
+impl<'a> Display for Indexes<'a> {
+    fn fmt<W: fmt::Write>(&self, f: &mut fmt::Formatter<W>) -> fmt::Result {
+        for scan in self.0 {
+            write!(f, "{}", plan::index_code(scan.index))?;
         }
+        Ok(())
     }
-    Ok(())
 }

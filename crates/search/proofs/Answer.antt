@@ -11,8 +11,8 @@ use lib.ListN.{length, take}
 use lib.Dec.{ltb}
 use Rattle.capacity.specs.Capacity.{max_scans, max_searched}
 use Rattle.refusal.specs.declared.Refusal.{Refusal}
-use Rattle.refusal.specs.declared.Verdict.{Verdict}
-use Rattle.refusal.specs.declared.Verdict.TheVariants.{Fine, Refused}
+use Rattle.refusal.specs.Verdict.{Verdict}
+use Rattle.std.specs.Prelude.{Ok, Err, Some, None}
 use Rattle.refusal.specs.Verdict.{refused}
 use Rattle.lists.specs.Padded.{padded}
 use Rattle.lists.proofs.Padded.{padded-take, padded-other}
@@ -30,8 +30,9 @@ use Rattle.planned.proofs.Passes.{plan-verdict}
 use Rattle.listing.specs.Next.{with_scans}
 use Rattle.listing.specs.Listing.{cycle_of, each_before, combinations}
 use Rattle.search.specs.declared.Best.{Best}
+use Rattle.search.specs.Answered.{Found}
 use Rattle.search.specs.Search.{Candidate, orders, arranged, is_fine, candidates, least_from, found_as, not_found, first_least, search_of}
-use Rattle.search.specs.Best.{none, kept, best_from, arranged_query, plan_with, chosen, Searchable, Orders}
+use Rattle.search.specs.Best.{kept, best_from, arranged_query, plan_with, chosen, Searchable, Orders}
 use Rattle.search.proofs.Kept.{best-first, best-of-none}
 use Rattle.search.proofs.Weighed.{map-mem, only-orders, Weighed, only-plans}
 use Rattle.search.proofs.Fresh.{initial-long, arranged-fault, fresh-plan}
@@ -70,9 +71,9 @@ listed-long [] l i = go (Memᴰ.cases_cons i)
 listed-long (s ∷ ss) l i = before-long (length ss) (cycle_of s) (combinations ss) (listed-long ss) l i
 
 -- a sound order is not refused
-pub sound-fine : (v : Verdict) → is_fine v ≡ true → v ≡ Fine
-sound-fine Fine e = refl
-sound-fine (Refused r) e = absurd (false≢true e)
+pub sound-fine : (v : Verdict) → is_fine v ≡ true → v ≡ Ok tt
+sound-fine (Ok tt) e = refl
+sound-fine (Err r) e = absurd (false≢true e)
 
 module _ (q : Query) (able : Searchable q) where
   abbrev count : ℕ
@@ -104,10 +105,11 @@ module _ (q : Query) (able : Searchable q) where
     abbrev fresh : Plan
     fresh = plan_for q (arranged ss o)
 
+    fine : (plan_of (arranged_query q o)).verdict ≡ Ok tt
+    fine = plan-verdict (arranged_query q o) ∙ arranged-fault q able.clear.statements_sized able.clear.fine o is_order ∙ sound-fine _ w.3
+
     planned : (plan_of (arranged_query q o)).plan ≡ fresh
-    planned =
-        fresh-plan q able.clear.statements_sized able.clear.fine o is_order able.clear.selects_sized
-        (plan-verdict (arranged_query q o) ∙ arranged-fault q able.clear.statements_sized able.clear.fine o is_order ∙ sound-fine _ w.3)
+    planned = fresh-plan q able.clear.statements_sized able.clear.fine o is_order able.clear.selects_sized fine
 
     with-scans : plan_with fresh (padded zero_scan max_scans l) ≡ with_scans fresh l
     unfolding plan_for
@@ -117,34 +119,44 @@ module _ (q : Query) (able : Searchable q) where
         let p = padded-other zero_scan max_scans i l (listed-long i l w.4) (omega (arith, n, able.few)) in
         rw (sym (rw n at p))
 
+    pub kept-fine : (plan_of (arranged_query q (take count (kept c).order))).verdict ≡ Ok tt
+    kept-fine = rw (w.5, front) fine
+
     pub kept-found : chosen q (kept c) ≡ found_as q c
     kept-found = rw (w.5, front, planned, with-scans)
 
   -- no candidate
-  pub none_found : (b : Best) → b ≡ best_from none all → b.is_some ≡ false → first_least q all ≡ not_found (refused 18 0)
-  none_found b e n = go all e
+  pub none_found : None ≡ best_from None all → first_least q all ≡ not_found (refused 18 0)
+  none_found e = go all e
     where
-      go : (cs : List Candidate) → b ≡ best_from none cs → first_least q cs ≡ not_found (refused 18 0)
+      go : (cs : List Candidate) → None ≡ best_from None cs → first_least q cs ≡ not_found (refused 18 0)
       go [] f = refl
-      go (c ∷ cs) f = absurd (false≢true (sym n ∙ ap (λ (x : Best). x.is_some) (f ∙ best-first c cs)))
+      go (c ∷ cs) f = absurd (cc (f ∙ best-first c cs))
 
-  -- the first of least cost
-  pub some-found : (b : Best) → b ≡ best_from none all → b.is_some ≡ true → Orders count b.order × (chosen q b ≡ first_least q all)
-  some-found b e n = go all (only-plans q.variable_count ss (orders count)) e
+  -- the first of least cost: its order is planned, and makes the answer
+  pub record Chosen (b : Best) (found : Found) : Type 0 where
+    pub ordered : Orders count b.order
+    pub accepted : (plan_of (arranged_query q (take count b.order))).verdict ≡ Ok tt
+    pub answers : chosen q b ≡ found
+
+  pub some-found : (b : Best) → Some b ≡ best_from None all → Chosen b (first_least q all)
+  some-found b e = go all (only-plans q.variable_count ss (orders count)) e
     where
-      go : (cs : List Candidate) → ((c : Candidate) → Memᴰ c cs → Weighed q.variable_count ss (orders count) c) → b ≡ best_from none cs
-          → Orders count b.order × (chosen q b ≡ first_least q cs)
-      go [] h f = absurd (false≢true (sym (ap (λ (x : Best). x.is_some) (f ∙ best-of-none)) ∙ n))
+      go : (cs : List Candidate) → ((c : Candidate) → Memᴰ c cs → Weighed q.variable_count ss (orders count) c) → Some b ≡ best_from None cs
+          → Chosen b (first_least q cs)
+      go [] h f = absurd (cc (f ∙ best-of-none))
       go (c ∷ cs) h f =
-          let w = h (least_from c cs) (least-in c cs) in
-          rw (f ∙ best-first c cs) (kept-orders (least_from c cs) w, kept-found (least_from c cs) w)
+          let d = least_from c cs in
+          let w = h d (least-in c cs) in
+          let k : b ≡ kept d = cc (f ∙ best-first c cs) in
+          rw k record { ordered = kept-orders d w; accepted = kept-fine d w; answers = kept-found d w }
 
 -- what the search answers: 10 to 15, then 17, then the first of least cost
-pub search-refused : (q : Query) (r : Refusal) → query_fault q ≡ Refused r → search_of q ≡ not_found (Refused r)
+pub search-refused : (q : Query) (r : Refusal) → query_fault q ≡ Err r → search_of q ≡ not_found (Err r)
 unfolding search_of
 search-refused q r e = rw e
 
-module _ (q : Query) (e : query_fault q ≡ Fine) where
+module _ (q : Query) (e : query_fault q ≡ Ok tt) where
   pub search-many : max_searched < q.where_statements.count → search_of q ≡ not_found (refused 17 0)
   unfolding search_of
   search-many h = rw (e, lt-ltb max_searched q.where_statements.count h)

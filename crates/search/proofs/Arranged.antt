@@ -13,7 +13,7 @@ use lib.Seq.{ext_get_or}
 use lib.Dec.{ltb}
 use Rattle.lists.specs.Span.{span}
 use Rattle.lists.proofs.Span.{length-span, get_or-span}
-use Rattle.refusal.specs.declared.Verdict.TheVariants.{Fine}
+use Rattle.std.specs.Prelude.{Ok}
 use Rattle.refusal.proofs.First.{each-passes, first-agree}
 use Rattle.orders.specs.Lists.{up_to, one, times, OrderOf}
 use Rattle.orders.proofs.Lists.{times-append}
@@ -129,7 +129,7 @@ module _ (ss : List Statement) (o : List ℕ) (order : OrderOf (up_to (length ss
   length-order = length-map o (λ j. get_or ss j zero_statement) ∙ order.long ∙ length-span 0 (length ss)
 
   -- 14 asks that no statement is high
-  pub statements-order : (n : ℕ) → statements_fault n ss 0 ≡ Fine → statements_fault n (arranged ss o) 0 ≡ Fine
+  pub statements-order : (n : ℕ) → statements_fault n ss 0 ≡ Ok tt → statements_fault n (arranged ss o) 0 ≡ Ok tt
   unfolding statements_fault
   statements-order n e =
       (each-passes _ _ zero_statement 0 (arranged ss o)).1

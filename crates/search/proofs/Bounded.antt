@@ -8,7 +8,7 @@ use mathlib.Core.Bool.{Bool, true, false}
 use borrow.Author.Tests.{lt-leb}
 use lib.ListN.{length, take}
 use Rattle.capacity.specs.Capacity.{max_searched}
-use Rattle.refusal.specs.declared.Verdict.TheVariants.{Fine}
+use Rattle.std.specs.Prelude.{Ok}
 use Rattle.plan.specs.declared.Scan.{Scan}
 use Rattle.plan.specs.declared.Index.{Index}
 use Rattle.plan.specs.declared.Index.TheVariants.{Aevt, Avet, Eavt}
@@ -70,12 +70,17 @@ pub weight-fits : (ss : List Scan) → length ss ≤ max_searched → weight [] 
 weight-fits = weight-below []
 
 -- so none of them is refused 27
-pub fault-fine : (before ss : List Scan) (i : ℕ) → length ss ≤ max_searched → weight_fault before ss i ≡ Fine
+pub fault-fine : (before ss : List Scan) (i : ℕ) → length ss ≤ max_searched → weight_fault before ss i ≡ Ok tt
 unfolding weight_fault
 fault-fine before [] i h = refl
 fault-fine before (s ∷ ss) i h = simp (fault-fine (before ++ (s ∷ [])) ss (i + 1) (omega arith), lt-leb (2 ^ 64) _ (weight-below before (s ∷ ss) h))
 
-pub cost-fits : (scans : List Scan) (k : ℕ) → scan_flows_fault scans k ≡ Fine → length (take k scans) ≤ max_searched
+pub cost-fits : (scans : List Scan) (k : ℕ) → scan_flows_fault scans k ≡ Ok tt → length (take k scans) ≤ max_searched
     → (cost_of_scans scans k).cost ≡ weight [] (take k scans)
 unfolding cost_of_scans
 cost-fits scans k e h = rw (e, fault-fine [] (take k scans) 0 h)
+
+pub cost-fine : (scans : List Scan) (k : ℕ) → scan_flows_fault scans k ≡ Ok tt → length (take k scans) ≤ max_searched
+    → (cost_of_scans scans k).verdict ≡ Ok tt
+unfolding cost_of_scans
+cost-fine scans k e h = rw (e, fault-fine [] (take k scans) 0 h)

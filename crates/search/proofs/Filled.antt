@@ -10,42 +10,36 @@ use lib.Seq.{length-take-le, take-suc, get_or-take}
 use Rattle.lists.specs.Span.{span}
 use Rattle.capacity.specs.Capacity.{max_statements, max_searched}
 use Rattle.lists.specs.Padded.{padded}
-use Rattle.lists.proofs.Padded.{padded-length, padded-none, padded-more}
-use Rattle.orders.specs.Lists.{up_to}
+use Rattle.lists.proofs.Padded.{padded-none, padded-more}
+use Rattle.orders.specs.Lists.{up_to, OrderOf}
 use Rattle.lists.proofs.Span.{length-span}
 use Rattle.query.specs.declared.Statement.{Statement}
 use Rattle.query.specs.Query.{zero_statement}
 use Rattle.search.specs.Search.{arranged}
-use Rattle.search.specs.Best.{Orders}
 use Rattle.search.proofs.Arranged.{order_below}
 
 -- after i of them
 abbrev pub filled : ℕ → List Statement → List ℕ → ℕ → List Statement
 filled count given order i = padded zero_statement max_statements (arranged (take count given) (take i order))
 
-module _ (count : ℕ) (given : List Statement) (order : List ℕ) (o : Orders count order) where
+module _ (count : ℕ) (given : List Statement) (order : List ℕ) (few : count ≤ max_searched) (o : OrderOf (up_to count) order) where
   pub filled-start : replicate max_statements zero_statement ≡ filled count given order 0
   filled-start = sym (padded-none zero_statement max_statements)
 
-  room : count ≤ length order
-  room =
-      let e = ap length o.zeros in
-      omega (arith, e, padded-length 0 max_searched (take count order), o.few)
+  pub order-long : length order ≡ count
+  order-long = o.long ∙ length-span 0 count
 
-  pub number-below : (i : ℕ) → i < count → get_or order i 0 < count
-  number-below i h =
-      let l = length-take-le count order room in
-      rw (get_or-take count order i 0 h) at (order_below count (take count order) o.is_order i (omega (arith, l)))
+  pub number-below : (i : ℕ) → i < length order → get_or order i 0 < count
+  number-below i h = order_below count order o i h
 
-  pub filled_more : (i : ℕ) → i < count → set (filled count given order i) i (get_or given (get_or order i 0) zero_statement) ≡ filled count given order (i + 1)
+  pub filled_more : (i : ℕ) → i < length order → set (filled count given order i) i (get_or given (get_or order i 0) zero_statement) ≡ filled count given order (i + 1)
   filled_more i h =
-      let n : i < length order = omega (arith, room) in
       let s = get_or given (get_or order i 0) zero_statement in
       let a = arranged (take count given) (take i order) in
       let l : length a ≡ i = length-map (take i order) _ ∙ length-take-le i order (omega arith) in
       let e : get_or (take count given) (get_or order i 0) zero_statement ≡ s = get_or-take count given (get_or order i 0) zero_statement (number-below i h) in
-      let p = padded-more zero_statement max_statements a s (omega (arith, l, o.few)) in
-      (rw l at p) ∙ ap (padded zero_statement max_statements) (sym (rw (add-one, take-suc order i 0 n, map-append, e)))
+      let p = padded-more zero_statement max_statements a s (omega (arith, l, few, order-long)) in
+      (rw l at p) ∙ ap (padded zero_statement max_statements) (sym (rw (add-one, take-suc order i 0 h, map-append, e)))
 
 -- the same for the numbers 0, 1, ..
 span_more : (a m : ℕ) → span a (suc m) ≡ span a m ++ ((a + m) ∷ [])

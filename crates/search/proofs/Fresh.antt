@@ -7,7 +7,7 @@ use lib.ListN.{length, take}
 use lib.Seq.{length-take-le}
 use Rattle.capacity.specs.Capacity.{max_statements, max_scans, max_selects}
 use Rattle.refusal.specs.declared.Refusal.{Refusal}
-use Rattle.refusal.specs.declared.Verdict.TheVariants.{Fine, Refused}
+use Rattle.std.specs.Prelude.{Ok, Err, Option}
 use Rattle.refusal.proofs.Fine.{or-fine}
 use Rattle.lists.specs.Padded.{padded}
 use Rattle.lists.proofs.Padded.{padded-length, padded-take}
@@ -19,9 +19,11 @@ use Rattle.query_check.specs.Refusals.{statements_fault, capacity_fault, variabl
 use Rattle.plan.specs.declared.Scan.{Scan}
 use Rattle.plan.specs.declared.Plan.{Plan}
 use Rattle.plan.specs.Plan.{zero_scan}
-use Rattle.planner.specs.declared.Planned.{Planned}
+use Rattle.planner.specs.Answered.{Planned}
 use Rattle.planner.specs.Refusals.{bound_twice_fault, plan_fault}
 use Rattle.planner.specs.Planning.{scans_for, plan_for, plan_of}
+use Rattle.refusal.specs.Verdict.{answer}
+use Rattle.planner.proofs.Answered.{answer-refused, answer-fine}
 use Rattle.planner.proofs.Accepted.{query-fits}
 use Rattle.planner.proofs.Statements.{length-scans}
 use Rattle.planned.proofs.Initial.{scans-initial}
@@ -32,7 +34,7 @@ use Rattle.search.specs.Search.{Candidate, arranged, weighed, candidates_of}
 use Rattle.search.specs.Best.{best_from, arranged_query, Searchable, Orders, Plans}
 use Rattle.search.proofs.Arranged.{length-order, statements-order, constants-order, unused-order}
 
-module _ (q : Query) (sized : length q.where_statements.items ≡ max_statements) (fine : query_fault q ≡ Fine) (o : List ℕ)
+module _ (q : Query) (sized : length q.where_statements.items ≡ max_statements) (fine : query_fault q ≡ Ok tt) (o : List ℕ)
     (order : OrderOf (up_to q.where_statements.count) o) where
   abbrev count : ℕ
   count = q.where_statements.count
@@ -54,7 +56,7 @@ module _ (q : Query) (sized : length q.where_statements.items ≡ max_statements
   arranged-statements = padded-take zero_statement max_statements count (arranged ss o) (length-order ss o statements-ordered ∙ long) few
 
   -- it is not refused either
-  pub arranged-fine : query_fault (arranged_query q o) ≡ Fine
+  pub arranged-fine : query_fault (arranged_query q o) ≡ Ok tt
   unfolding query_fault capacity_fault variables_fault
   arranged-fine =
       let n = q.variable_count in
@@ -78,12 +80,12 @@ module _ (q : Query) (sized : length q.where_statements.items ≡ max_statements
   initial-long = length-scans [] (arranged ss o) n ∙ length-order ss o statements-ordered ∙ long
 
   -- none where it is not sound
-  pub unsound-none : (r : Refusal) → (plan_of (arranged_query q o)).verdict ≡ Refused r → candidates_of n ss o ≡ []
+  pub unsound-none : (r : Refusal) → (plan_of (arranged_query q o)).verdict ≡ Err r → candidates_of n ss o ≡ []
   unfolding candidates_of
   unsound-none r e = let f = sym arranged-fault ∙ sym (plan-verdict (arranged_query q o)) ∙ e in rw f
 
   -- else its plans
-  module _ (selects_sized : length q.select.items ≡ max_selects) (accepted : (plan_of (arranged_query q o)).verdict ≡ Fine) where
+  module _ (selects_sized : length q.select.items ≡ max_selects) (accepted : (plan_of (arranged_query q o)).verdict ≡ Ok tt) where
     pub sound-plans : candidates_of n ss o ≡ map (weighed o) (combinations initial)
     unfolding candidates_of
     sound-plans = let f = sym arranged-fault ∙ sym (plan-verdict (arranged_query q o)) ∙ accepted in rw f
@@ -107,34 +109,36 @@ module _ (q : Query) (sized : length q.where_statements.items ≡ max_statements
       zeros = rw initial-front;
     }
 
--- the same of what planning answered
-module _ (q : Query) (able : Searchable q) (order : List ℕ) (os : Orders q.where_statements.count order) (planned : Planned)
-    (e : planned ≡ plan_of (arranged_query q (take q.where_statements.count order))) where
+-- the same of what planning answers
+module _ (q : Query) (able : Searchable q) (order : List ℕ) (os : Orders q.where_statements.count order) where
   abbrev o : List ℕ
   o = take q.where_statements.count order
 
   abbrev candidates : List Candidate
   candidates = candidates_of q.variable_count (statements_of q) o
 
-  pub order-passed : (r : Refusal) → planned.verdict ≡ Refused r → (b : Best) → b ≡ best_from b candidates
+  abbrev said : Planned
+  said = plan_of (arranged_query q o)
+
+  pub order-passed : (r : Refusal) → answer said.verdict said.plan ≡ Err r → (b : Option Best) → b ≡ best_from b candidates
   unfolding best_from
-  order-passed r v b = rw (unsound-none q able.clear.statements_sized able.clear.fine o os.is_order r (sym (ap (λ (p : Planned). p.verdict) e) ∙ v))
+  order-passed r e b = rw (unsound-none q able.clear.statements_sized able.clear.fine o os.is_order r (answer-refused _ _ r e))
 
-  module _ (v : planned.verdict ≡ Fine) where
-    accepted : (plan_of (arranged_query q o)).verdict ≡ Fine
-    accepted = sym (ap (λ (p : Planned). p.verdict) e) ∙ v
+  module _ (plan : Plan) (e : answer said.verdict said.plan ≡ Ok plan) where
+    accepted : said.verdict ≡ Ok tt
+    accepted = (answer-fine _ _ plan e).0
 
-    counted : planned.plan.scan_count ≡ q.where_statements.count
-    counted = ap (λ (p : Planned). p.plan.scan_count) e ∙ fresh-count q able.clear.statements_sized able.clear.fine o os.is_order able.clear.selects_sized accepted
+    counted : plan.scan_count ≡ q.where_statements.count
+    counted = ap (λ (p : Plan). p.scan_count) (sym (answer-fine _ _ plan e).1) ∙ fresh-count q able.clear.statements_sized able.clear.fine o os.is_order able.clear.selects_sized accepted
 
-    scanned : planned.plan.scans ≡ padded zero_scan max_scans (scans_for [] (arranged (statements_of q) o) q.variable_count)
-    scanned = ap (λ (p : Planned). p.plan.scans) e ∙ fresh-scans q able.clear.statements_sized able.clear.fine o os.is_order able.clear.selects_sized accepted
+    scanned : plan.scans ≡ padded zero_scan max_scans (scans_for [] (arranged (statements_of q) o) q.variable_count)
+    scanned = ap (λ (p : Plan). p.scans) (sym (answer-fine _ _ plan e).1) ∙ fresh-scans q able.clear.statements_sized able.clear.fine o os.is_order able.clear.selects_sized accepted
 
-    pub order-asks : Orders planned.plan.scan_count order × Plans planned.plan.scan_count planned.plan.scans
+    pub order-asks : Orders plan.scan_count order × Plans plan.scan_count plan.scans
     order-asks = rw (counted, scanned) (os, fresh-plans q able.clear.statements_sized able.clear.fine o os.is_order able.clear.selects_sized accepted)
 
-    pub order-weighs : (b r : Best)
-        → r ≡ best_from b (map (weighed (take planned.plan.scan_count order)) (combinations (take planned.plan.scan_count planned.plan.scans)))
+    pub order-weighs : (b r : Option Best)
+        → r ≡ best_from b (map (weighed (take plan.scan_count order)) (combinations (take plan.scan_count plan.scans)))
         → r ≡ best_from b candidates
     order-weighs b r h =
         let front = initial-front q able.clear.statements_sized able.clear.fine o os.is_order able.clear.selects_sized accepted in

@@ -9,5 +9,5 @@ pub mod Fresh
 pub mod Filled
 pub mod Round
 pub mod Answer
-pub mod Cheapest
+pub mod Least
 pub mod OneAnswer

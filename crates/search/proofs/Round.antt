@@ -3,17 +3,20 @@ use mathlib.Core.Path.{◌≡◌, refl, sym, ap, subst, ◌∙◌}
 use Prim.Native.Nat.{ℕ, zero, suc, ◌≤◌, ◌<◌}
 use native.Mathlib.Omega.{arith}
 use mathlib.Core.List.{List, [], ◌∷◌, ◌++◌}
-use mathlib.Core.Bool.{true, false, false≢true}
+use mathlib.Core.Bool.{Bool, true, false, false≢true}
 use borrow.Author.Tests.{le-ltb}
 use lib.ListN.{length, take, drop, take-append-drop}
+use Rattle.std.specs.Prelude.{Ok, Option, Some, None, if◌then◌else◌}
 use lib.Seq.{length-take-le, take_at}
 use Rattle.capacity.specs.Capacity.{max_elements, max_searched}
 use Rattle.lists.specs.Padded.{padded}
 use Rattle.lists.proofs.Padded.{padded-length, padded-take, padded-other}
 use Rattle.permutation.specs.declared.Permutations.{Permutations}
 use Rattle.permutation.specs.declared.Swap.{Swap}
-use Rattle.permutation.specs.declared.NextSwap.{NextSwap}
+use Rattle.permutation.specs.Answered.{NextSwap}
 use Rattle.permutation.specs.Swaps.{given, start, elements_fault, fresh_of, next_swap_of}
+use Rattle.std.specs.List.{swap}
+use Rattle.std.proofs.lemmas.List.Edits.{swap_is}
 use Rattle.orders.specs.Lists.{swapped, up_to, factorial}
 use Rattle.orders.specs.Heap.{heap}
 use Rattle.orders.specs.Listing.{answer_at, answer_in}
@@ -26,7 +29,7 @@ use Rattle.query.specs.declared.Query.{Query}
 use Rattle.query.specs.Query.{statements_of}
 use Rattle.search.specs.declared.Best.{Best}
 use Rattle.search.specs.Search.{Candidate, orders, candidates_of, candidates}
-use Rattle.search.specs.Best.{none, best_from, Searchable, Orders}
+use Rattle.search.specs.Best.{best_from, Searchable, Orders}
 use Rattle.search.proofs.Kept.{best-append}
 use Rattle.search.proofs.Left.{swaps_left, swaps-left}
 
@@ -69,6 +72,11 @@ module _ (count : ℕ) (order : List ℕ) (o : Orders count order) where
           zeros = ap (padded 0 max_searched) swapped-front ∙ sym (rw (o.zeros, long) at p) ∙ sym parted;
         }
 
+-- as the library says it
+pub swapped-library : (a b : ℕ) (l : List ℕ) → a < length l → b < length l → swapped a b l ≡ swap l a b
+unfolding swapped
+swapped-library a b l h g = swap_is l a b 0 h g
+
 -- the first order
 pub orders-first : (count : ℕ) → count ≤ max_searched → Orders count (padded 0 max_searched (up_to count))
 orders-first count h =
@@ -76,7 +84,7 @@ orders-first count h =
     record { few = h; is_order = rw e (order-refl (up_to count)); zeros = rw e }
 
 -- the orders still to come
-pub record Round (q : Query) (best : Best) (order : List ℕ) (state : Permutations) : Type 0 where
+pub record Round (q : Query) (best : Option Best) (order : List ℕ) (state : Permutations) : Type 0 where
   pub rest : List Swap
   pub follows : Follows state rest
   pub within : Within rest q.where_statements.count
@@ -84,16 +92,29 @@ pub record Round (q : Query) (best : Best) (order : List ℕ) (state : Permutati
   pub ordered : Orders q.where_statements.count order
   pub whole :
       best_from best (candidates q.variable_count (statements_of q) (visits rest (take q.where_statements.count order))) ≡
-      best_from none (candidates q.variable_count (statements_of q) (orders q.where_statements.count))
+      best_from None (candidates q.variable_count (statements_of q) (orders q.where_statements.count))
 
 pub fresh_start : (n : ℕ) → n ≤ max_searched → (fresh_of n).state ≡ start n
 unfolding fresh_of elements_fault
 fresh_start n h = let g : n ≤ max_elements = omega arith in rw (le-ltb max_elements n g)
 
+pub fresh_fine : (n : ℕ) → n ≤ max_searched → (fresh_of n).verdict ≡ Ok tt
+unfolding fresh_of elements_fault
+fresh_fine n h = let g : n ≤ max_elements = omega arith in rw (le-ltb max_elements n g)
+
+-- what `next` says there is
+pub no-swap : (t : Bool) (s : Swap) → (if t then Some s else None) ≡ None → t ≡ false
+no-swap true s e = absurd cc
+no-swap false s e = refl
+
+pub a-swap : (t : Bool) (s w : Swap) → (if t then Some s else None) ≡ Some w → (t ≡ true) × (s ≡ w)
+a-swap true s w e = (refl, cc)
+a-swap false s w e = absurd cc
+
 abbrev pub orders_left : Query → Permutations → ℕ
 orders_left q state = swaps_left (factorial q.where_statements.count) state
 
-pub round-start : (q : Query) → Searchable q → Round q none (padded 0 max_searched (up_to q.where_statements.count)) (start q.where_statements.count)
+pub round-start : (q : Query) → Searchable q → Round q None (padded 0 max_searched (up_to q.where_statements.count)) (start q.where_statements.count)
 round-start q able =
     let n = q.where_statements.count in
     let fits : n ≤ max_elements = omega (arith, able.few) in
@@ -109,7 +130,7 @@ round-start q able =
       whole = rw (e, v);
     }
 
-module _ (q : Query) (best : Best) (order : List ℕ) (state : Permutations) (r : Round q best order state) (after : Best)
+module _ (q : Query) (best : Option Best) (order : List ℕ) (state : Permutations) (r : Round q best order state) (after : Option Best)
     (weighs : after ≡ best_from best (candidates_of q.variable_count (statements_of q) (take q.where_statements.count order))) where
   abbrev count : ℕ
   count = q.where_statements.count
@@ -124,19 +145,27 @@ module _ (q : Query) (best : Best) (order : List ℕ) (state : Permutations) (r 
   less_one : (os : List (List ℕ)) → best_from best (all (o ∷ os)) ≡ best_from after (all os)
   unfolding candidates
   less_one os =
-      best-append best (candidates_of q.variable_count (statements_of q) o) (all os) ∙ ap (λ (b : Best). best_from b (all os)) (sym weighs)
+      best-append best (candidates_of q.variable_count (statements_of q) o) (all os) ∙ ap (λ (b : Option Best). best_from b (all os)) (sym weighs)
 
   none_more : best_from after (all []) ≡ after
   unfolding best_from candidates
   none_more = refl
 
+  -- a step is not refused
+  pub swap-fine : (next_swap_of state).next.verdict ≡ Ok tt
+  swap-fine = go r.rest r.follows
+    where
+      go : (rest : List Swap) → Follows state rest → (next_swap_of state).next.verdict ≡ Ok tt
+      go [] f = unfold answer_at answer_in in ap (λ (x : NextSwap). x.verdict) (f zero)
+      go (s ∷ rest) f = ap (λ (x : NextSwap). x.verdict) (first-left state s rest f)
+
   -- after the last
-  pub round-end : (next_swap_of state).next.is_some ≡ false → after ≡ best_from none (all (orders count))
+  pub round-end : (next_swap_of state).next.is_some ≡ false → after ≡ best_from None (all (orders count))
   round-end n = go r.rest r.follows r.whole
     where
-      go : (rest : List Swap) → Follows state rest → best_from best (all (visits rest o)) ≡ best_from none (all (orders count)) → after ≡ best_from none (all (orders count))
+      go : (rest : List Swap) → Follows state rest → best_from best (all (visits rest o)) ≡ best_from None (all (orders count)) → after ≡ best_from None (all (orders count))
       go [] f w =
-          let e : best_from best (all (o ∷ [])) ≡ best_from none (all (orders count)) = unfold visits in w in
+          let e : best_from best (all (o ∷ [])) ≡ best_from None (all (orders count)) = unfold visits in w in
           sym none_more ∙ sym (less_one []) ∙ e
       go (s ∷ rest) f w = absurd (false≢true (sym n ∙ ap (λ (x : NextSwap). x.is_some) (first-left state s rest f)))
 
@@ -158,11 +187,11 @@ module _ (q : Query) (best : Best) (order : List ℕ) (state : Permutations) (r 
     round-again = go r.rest r.follows r.within r.fewer r.whole
       where
         go : (rest : List Swap) → Follows state rest → Within rest count → length rest ≤ factorial count
-            → best_from best (all (visits rest o)) ≡ best_from none (all (orders count)) → Round q after (swapped w.0 w.1 order) (next_swap_of state).state
+            → best_from best (all (visits rest o)) ≡ best_from None (all (orders count)) → Round q after (swapped w.0 w.1 order) (next_swap_of state).state
         go [] f h g e = absurd (false≢true (sym (none_left state f) ∙ n))
         go (s ∷ rest) f h g e =
             let later = others-left state s rest f in
-            let y : best_from best (all (o ∷ visits rest (swapped s.0 s.1 o))) ≡ best_from none (all (orders count)) = unfold visits in e in
+            let y : best_from best (all (o ∷ visits rest (swapped s.0 s.1 o))) ≡ best_from None (all (orders count)) = unfold visits in e in
             subst (λ (x : NextSwap). Round q after (swapped x.swap.0 x.swap.1 order) (next_swap_of state).state) (sym (first-left state s rest f)) record {
               rest = rest;
               follows = later;

@@ -3,18 +3,20 @@ use mathlib.Core.Path.{◌≡◌, refl, sym, ap, ◌∙◌}
 use Prim.Native.Nat.{ℕ, ◌≤◌, ◌<◌}
 use native.Mathlib.Omega.{arith}
 use mathlib.Core.List.{List, [], ◌∷◌, ◌++◌, map, Memᴰ}
-use mathlib.Core.Bool.{true, false, false≢true}
+use mathlib.Core.Bool.{Bool, true, false, false≢true}
 use borrow.Author.Tests.{le-ltb}
 use lib.ListN.{length, take, drop}
 use lib.Seq.{length-take-le, take_at}
 use Rattle.capacity.specs.Capacity.{max_scans}
 use Rattle.lists.specs.Padded.{padded}
 use Rattle.lists.proofs.Padded.{padded-length, padded-other}
-use Rattle.refusal.specs.declared.Verdict.TheVariants.{Fine}
+use Rattle.std.specs.Prelude.{Ok, Option}
 use Rattle.plan.specs.declared.Scan.{Scan}
 use Rattle.plan.specs.Plan.{zero_scan, scan_flows_fault}
-use Rattle.cost.specs.declared.Costed.{Costed}
 use Rattle.cost.specs.Cost.{weight, cost_of_scans}
+use Rattle.refusal.specs.Verdict.{answer}
+use Rattle.listing.specs.Answered.{NextScans}
+use Rattle.planner.proofs.Answered.{answer-fine}
 use Rattle.listing.specs.Next.{next_scans, is_new_scans, stepped, next_of_scans}
 use Rattle.listing.specs.Listing.{combinations}
 use Rattle.listing.proofs.Circle.{Run}
@@ -24,14 +26,14 @@ use Rattle.listing.proofs.NextLists.{same-flows, next-length}
 use Rattle.search.specs.declared.Best.{Best}
 use Rattle.search.specs.Search.{Candidate, weighed}
 use Rattle.search.specs.Best.{kept, better, best_from, Orders, Plans}
-use Rattle.search.proofs.Bounded.{cost-fits}
+use Rattle.search.proofs.Bounded.{cost-fits, cost-fine}
 use Rattle.search.proofs.Left.{steps_left, run-left}
 
 -- the plans from these scans on
 abbrev pub plans_left : ℕ → List Scan → List Scan → ℕ
 plans_left count scans₀ scans = steps_left next_scans is_new_scans (length (combinations (take count scans₀))) (take count scans)
 
-pub record Through (order : List ℕ) (count : ℕ) (best₀ : Best) (scans₀ : List Scan) (best : Best) (scans : List Scan) : Type 0 where
+pub record Through (order : List ℕ) (count : ℕ) (best₀ : Option Best) (scans₀ : List Scan) (best : Option Best) (scans : List Scan) : Type 0 where
   pub rest : List (List Scan)
   pub run : Run next_scans is_new_scans (take count scans₀) (take count scans) rest
   pub fewer : length rest ≤ length (combinations (take count scans₀))
@@ -40,7 +42,7 @@ pub record Through (order : List ℕ) (count : ℕ) (best₀ : Best) (scans₀ :
   pub whole :
       best_from best (map (weighed (take count order)) (take count scans ∷ rest)) ≡ best_from best₀ (map (weighed (take count order)) (combinations (take count scans₀)))
 
-pub through-start : (order : List ℕ) (count : ℕ) (best : Best) (scans : List Scan) → Plans count scans → Through order count best scans best scans
+pub through-start : (order : List ℕ) (count : ℕ) (best : Option Best) (scans : List Scan) → Plans count scans → Through order count best scans best scans
 through-start order count best scans p =
     let l = take count scans in
     let c = wheels l p.initial in
@@ -53,7 +55,7 @@ through-start order count best scans p =
       whole = ap (λ (x : List (List Scan)). best_from best (map (weighed (take count order)) x)) (sym c.begins);
     }
 
-module _ (order : List ℕ) (count : ℕ) (best₀ : Best) (scans₀ : List Scan) (best : Best) (scans : List Scan) (o : Orders count order)
+module _ (order : List ℕ) (count : ℕ) (best₀ : Option Best) (scans₀ : List Scan) (best : Option Best) (scans : List Scan) (o : Orders count order)
     (t : Through order count best₀ scans₀ best scans) where
   abbrev l : List Scan
   l = take count scans
@@ -67,7 +69,7 @@ module _ (order : List ℕ) (count : ℕ) (best₀ : Best) (scans₀ : List Scan
       length-take-le count scans (omega (arith, h, padded-length zero_scan max_scans (take count scans), o.few))
 
   -- the scans are of a plan that is listed, so none is refused
-  flows : scan_flows_fault scans count ≡ Fine
+  flows : scan_flows_fault scans count ≡ Ok tt
   unfolding scan_flows_fault
   flows =
       let few : count ≤ max_scans = omega (arith, o.few) in
@@ -77,12 +79,23 @@ module _ (order : List ℕ) (count : ℕ) (best₀ : Best) (scans₀ : List Scan
   unfolding next_of_scans
   through-steps = simp flows
 
+  -- so what a step answers is the scans stepped
+  pub through-stepped : (is_new : Bool) (scans' : List Scan) → answer (next_of_scans scans count).verdict (next_of_scans scans count).is_new ≡ Ok is_new
+      → scans' ≡ (next_of_scans scans count).scans → (is_new_scans l ≡ is_new) × (scans' ≡ next_scans l ++ drop count scans)
+  through-stepped is_new scans' e f =
+      let g = (answer-fine _ _ is_new e).1 in
+      (sym (ap (λ (x : NextScans). x.is_new) through-steps) ∙ g, f ∙ ap (λ (x : NextScans). x.scans) through-steps)
+
+  -- nor is its cost
+  pub through-costs : (cost_of_scans scans count).verdict ≡ Ok tt
+  through-costs = cost-fine scans count flows (omega (arith, long, o.few))
+
   -- what is weighed is the candidate
-  module _ (costed : Costed) (costs : costed ≡ cost_of_scans scans count) (after : Best)
-      (takes : after ≡ better best (record { is_some = true; order = order; scans = scans; cost = costed.cost })) where
+  module _ (cost : ℕ) (costs : cost ≡ (cost_of_scans scans count).cost) (after : Option Best)
+      (takes : after ≡ better best (record { order = order; scans = scans; cost = cost })) where
     candidate : after ≡ better best (kept (weighed (take count order) l))
     candidate =
-        let e : costed.cost ≡ weight [] l = ap (λ (r : Costed). r.cost) costs ∙ cost-fits scans count flows (omega (arith, long, o.few)) in
+        let e : cost ≡ weight [] l = costs ∙ cost-fits scans count flows (omega (arith, long, o.few)) in
         takes ∙ rw (e, o.zeros, t.zeros)
 
     -- after the last

@@ -1,8 +1,8 @@
 -- What the private functions of the search keep: the best of the candidates weighed so far.
-use Rattle.std.specs.Prelude.{◌≡◌, ℕ, ◌≤◌, List, [], ◌∷◌, Bool, true, false, cond, take, replicate, ltb}
+use Rattle.std.specs.Prelude.{◌≡◌, ℕ, ◌≤◌, List, [], ◌∷◌, Option, Some, None, Bool, true, cond, take, ltb}
 use Rattle.capacity.specs.Capacity.{max_scans, max_searched}
 use Rattle.lists.specs.Padded.{padded}
-use Rattle.refusal.specs.declared.Verdict.TheVariants.{Fine}
+use Rattle.std.specs.Prelude.{Ok}
 use Rattle.query.specs.declared.Query.{Query}
 use Rattle.query_check.specs.Clear.{Clear}
 use Rattle.plan.specs.declared.Scan.{Scan}
@@ -12,27 +12,24 @@ use Rattle.planner.specs.Planning.{plan_of}
 use Rattle.orders.specs.Lists.{up_to, OrderOf}
 use Rattle.listing.specs.Listing.{Initial}
 use Rattle.search.specs.declared.Best.{Best}
-use Rattle.search.specs.declared.Found.{Found}
+use Rattle.search.specs.Answered.{Found}
 use Rattle.search.specs.Search.{Candidate}
 unfoldable pub use Rattle.search.specs.Search.{arranged_query}
 
--- none so far, and a candidate
-abbrev pub none : Best
-none = record { is_some = false; order = replicate max_searched 0; scans = replicate max_scans zero_scan; cost = 0 }
-
+-- a candidate
 abbrev pub kept : Candidate → Best
-kept c = record { is_some = true; order = padded 0 max_searched c.order; scans = padded zero_scan max_scans c.scans; cost = c.cost }
+kept c = record { order = padded 0 max_searched c.order; scans = padded zero_scan max_scans c.scans; cost = c.cost }
 
 -- a cost takes the place of the least so far if there is none, or it is less
-abbrev pub is_better : Bool → ℕ → ℕ → Bool
-is_better false least cost = true
-is_better true least cost = ltb cost least
+abbrev pub is_better : Option Best → ℕ → Bool
+is_better None cost = true
+is_better (Some b) cost = ltb cost b.cost
 
-abbrev pub better : Best → Best → Best
-better b c = cond (is_better b.is_some b.cost c.cost) c b
+abbrev pub better : Option Best → Best → Option Best
+better b c = cond (is_better b c.cost) (Some c) b
 
 -- the best after some more
-unfoldable pub best_from : Best → List Candidate → Best
+unfoldable pub best_from : Option Best → List Candidate → Option Best
 best_from b [] = b
 best_from b (c ∷ cs) = best_from (better b (kept c)) cs
 
@@ -65,7 +62,7 @@ plan_with p scans = record {
 
 abbrev pub chosen : Query → Best → Found
 chosen q b = record {
-  verdict = Fine;
+  verdict = Ok tt;
   order = b.order;
   plan = plan_with (plan_of (arranged_query q (take q.where_statements.count b.order))).plan b.scans;
   cost = b.cost;

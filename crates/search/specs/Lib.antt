@@ -1,3 +1,4 @@
+pub mod Answered
 pub mod Search
 pub mod FirstLeast
 pub mod Best

@@ -1,8 +1,12 @@
 -- 01, "Swaps and the search": the plans that are weighed, and the first of least cost.
+use Rattle.std.specs.Prelude.{Result}
+use Rattle.refusal.specs.declared.Refusal.{Refusal}
+use Rattle.refusal.specs.Verdict.{answer}
+use Rattle.search.specs.declared.Cheapest.{Cheapest}
 use Rattle.std.specs.Prelude.{ℕ, List, [], ◌∷◌, ◌++◌, map, Bool, true, false, cond, get_or, replicate, ltb}
 use Rattle.capacity.specs.Capacity.{max_statements, max_searched}
-use Rattle.refusal.specs.declared.Verdict.{Verdict}
-use Rattle.refusal.specs.declared.Verdict.TheVariants.{Fine, Refused}
+use Rattle.refusal.specs.Verdict.{Verdict}
+use Rattle.std.specs.Prelude.{Ok, Err}
 use Rattle.refusal.specs.Verdict.{refuse_if, or_else, unless}
 use Rattle.lists.specs.Padded.{padded}
 use Rattle.permutation.specs.Swaps.{start}
@@ -19,7 +23,7 @@ use Rattle.planner.specs.Refusals.{bound_twice_fault}
 use Rattle.planner.specs.Planning.{scans_for, plan_for}
 use Rattle.listing.specs.Next.{with_scans}
 use Rattle.listing.specs.Listing.{combinations}
-use Rattle.search.specs.declared.Found.{Found}
+use Rattle.search.specs.Answered.{Found}
 
 -- a plan that is weighed: the order of the statements, its scans, and its cost
 pub record Candidate : Type 0 where
@@ -45,8 +49,8 @@ arranged_query q o = record {
 
 -- an order is sound if no statement has one variable as both entity and value that no earlier statement names
 abbrev pub is_fine : Verdict → Bool
-is_fine Fine = true
-is_fine (Refused r) = false
+is_fine (Ok tt) = true
+is_fine (Err r) = false
 
 abbrev pub is_sound : List Statement → Bool
 is_sound ss = is_fine (bound_twice_fault [] ss 0)
@@ -70,7 +74,7 @@ least_from c (d ∷ ds) = least_from (cond (ltb d.cost c.cost) d c) ds
 -- what is found: the order with zeros past the last, the plan, its cost
 abbrev pub found_as : Query → Candidate → Found
 found_as q c = record {
-  verdict = Fine;
+  verdict = Ok tt;
   order = padded 0 max_searched c.order;
   plan = with_scans (plan_for q (arranged (statements_of q) c.order)) c.scans;
   cost = c.cost;
@@ -89,3 +93,7 @@ unfoldable pub search_of : Query → Found
 search_of q =
     unless (or_else (query_fault q) (refuse_if (ltb max_searched q.where_statements.count) 17 0)) not_found
     (first_least q (candidates q.variable_count (statements_of q) (orders q.where_statements.count)))
+
+-- what the search answers
+abbrev pub said_found : Found → Result Cheapest Refusal
+said_found f = answer f.verdict (record { order = f.order; plan = f.plan; cost = f.cost })

@@ -6,7 +6,7 @@ use mathlib.Core.List.{List, [], ◌∷◌}
 use lib.ListN.{length}
 use lib.Dec.{ltb}
 use Rattle.capacity.specs.Capacity.{max_statements, max_selects, max_searched}
-use Rattle.refusal.specs.declared.Verdict.TheVariants.{Fine}
+use Rattle.std.specs.Prelude.{Ok}
 use Rattle.refusal.specs.Verdict.{refused, refuse_if, or_else, unless}
 use Rattle.lists.specs.Padded.{padded}
 use Rattle.query.specs.declared.Var.{Var}
@@ -19,7 +19,7 @@ use Rattle.planner.specs.Planning.{plan_for}
 use Rattle.listing.specs.Next.{with_scans}
 use Rattle.planner_lent.specs.Lent.{read_statements, read_selects, query_of}
 use Rattle.planner_lent.proofs.Agree.{statements-read, selects-read, plan-alike}
-use Rattle.search.specs.declared.Found.{Found}
+use Rattle.search.specs.Answered.{Found}
 use Rattle.search.specs.Search.{Candidate, orders, arranged, candidates, least_from, not_found, first_least, search_of}
 use Rattle.search_lent.specs.Lent.{search_lent}
 
@@ -28,7 +28,7 @@ abbrev found_parts : (List Statement → Plan) → List Statement → List Candi
 found_parts planOn ss [] = not_found (refused 18 0)
 found_parts planOn ss (c ∷ cs) =
     let d = least_from c cs in
-    record { verdict = Fine; order = padded 0 max_searched d.order; plan = with_scans (planOn (arranged ss d.order)) d.scans; cost = d.cost }
+    record { verdict = Ok tt; order = padded 0 max_searched d.order; plan = with_scans (planOn (arranged ss d.order)) d.scans; cost = d.cost }
 
 found-parts : (q : Query) (cs : List Candidate) → first_least q cs ≡ found_parts (plan_for q) (statements_of q) cs
 found-parts q [] = refl

@@ -6,13 +6,13 @@ use mathlib.Core.List.{List}
 use Prim.Native.Nat.{ℕ, ◌≤◌, ◌<◌}
 use native.Mathlib.Omega.{arith}
 use native.Mathlib.Nat.{eq-or-lt_of_le}
-use Rattle.refusal.specs.declared.Verdict.{Verdict}
+use Rattle.refusal.specs.Verdict.{Verdict}
 use Rattle.refusal.proofs.OneAnswer.{one_answer}
 use Rattle.tables.specs.Rows.{rows_of, ascending, FirstRow, Range}
 use Rattle.tables.specs.Check.{tables_fault}
 use Rattle.tables.proofs.Order.{no-yes, lt-or-ge}
 
--- `check_tables`
+-- `Tables::check`
 pub check-one : (ae av ea : List ℕ) (r r' : Verdict) → r ≡ tables_fault ae av ea → r' ≡ tables_fault ae av ea → r ≡ r'
 check-one ae av ea r r' = one_answer
 

@@ -9,7 +9,7 @@ use native.Mathlib.Nat.{zero-add}
 use borrow.Author.Tests.{eqb-true, eq-eqb, not-false}
 use lib.ListN.{length, get_or, length-map, get_or-map}
 use lib.Dec.{eqb}
-use Rattle.refusal.specs.declared.Verdict.TheVariants.{Fine}
+use Rattle.std.specs.Prelude.{Ok}
 use Rattle.refusal.specs.Verdict.{refuse_if}
 use Rattle.refusal.proofs.Fine.{refuse-fine, or-fine}
 use Rattle.refusal.proofs.First.{each-passes}
@@ -24,11 +24,11 @@ use Rattle.tables.proofs.Table.{row-key}
 use Rattle.tables.proofs.SameFacts.{ascending-once, same-facts, all_in, no-fewer, no_more}
 
 -- a test that is not refused holds
-held : (b : Bool) (n p : ℕ) → refuse_if (not b) n p ≡ Fine → b ≡ true
+held : (b : Bool) (n p : ℕ) → refuse_if (not b) n p ≡ Ok tt → b ≡ true
 held b n p e = not-false b (refuse-fine (not b) n p e)
 
 -- 1: the lengths of whole rows, all the same
-lengths-fine : (a b c : ℕ) → lengths_fault a b c ≡ Fine → (a % words ≡ 0) × (b ≡ a) × (c ≡ a)
+lengths-fine : (a b c : ℕ) → lengths_fault a b c ≡ Ok tt → (a % words ≡ 0) × (b ≡ a) × (c ≡ a)
 lengths-fine a b c e =
     let p = both (eqb (a % words) 0 && eqb b a) (eqb c a) (held _ _ _ e) in
     let q = both (eqb (a % words) 0) (eqb b a) p.0 in
@@ -39,7 +39,7 @@ abbrev Found : List (List ℕ) → List (List ℕ) → List ℕ → Type 0
 Found av ea r = (is_among (avet_row (fact_of r)) av ≡ true) × (is_among (eavt_row (fact_of r)) ea ≡ true)
 
 -- 3: none is missing
-missing-fine : (av ea : List (List ℕ)) (ae : List ℕ) → missing_fault av ea (rows_of ae) 0 ≡ Fine ↔ ((i : ℕ) → i < count ae → Found av ea (row ae i))
+missing-fine : (av ea : List (List ℕ)) (ae : List ℕ) → missing_fault av ea (rows_of ae) 0 ≡ Ok tt ↔ ((i : ℕ) → i < count ae → Found av ea (row ae i))
 unfolding missing_fault
 missing-fine av ea ae =
     let found = each-passes _ _ (row ae 0) 0 (rows_of ae) in
@@ -66,7 +66,7 @@ eavt_fact r = record { entity = get_or r 0 0; attribute = get_or r 1 0; value = 
 
 module _ (ae av ea : List ℕ) where
   -- what tables that pass the check promise
-  pub tables-pass : tables_fault ae av ea ≡ Fine → Passed ae av ea
+  pub tables-pass : tables_fault ae av ea ≡ Ok tt → Passed ae av ea
   unfolding tables_fault
   tables-pass e =
       let a = or-fine (lengths_fault (length ae) (length av) (length ea)) _ e in
@@ -94,7 +94,7 @@ module _ (ae av ea : List ℕ) where
   -- sorted tables that hold the same facts pass the check
   pub pass-tables : Sorted ae → Sorted av → Sorted ea
       → ((f : Fact) → is_among (aevt_row f) (rows_of ae) ≡ is_among (avet_row f) (rows_of av))
-      → ((f : Fact) → is_among (aevt_row f) (rows_of ae) ≡ is_among (eavt_row f) (rows_of ea)) → tables_fault ae av ea ≡ Fine
+      → ((f : Fact) → is_among (aevt_row f) (rows_of ae) ≡ is_among (eavt_row f) (rows_of ea)) → tables_fault ae av ea ≡ Ok tt
   unfolding tables_fault
   pass-tables a v e in_avet in_eavt =
       let avet = all_in ae avet_row avet-apart a.ascends av in_avet in

@@ -73,12 +73,19 @@ module _ {test : List ℕ → List ℕ → Bool} {one : ℕ → ℕ → Bool} {e
     first-apart zero m d = absurd (m refl)
     first-apart (suc n) m d = begun _ ∙ w.apart x a _ _ d
 
+    -- the key has one word
+    pub first_last : (n : ℕ) → n ≡ 1 → test (row t i) (key n a b c) ≡ one x a
+    first_last n e = rw e (begun _ ∙ last x a _)
+
     -- the first words agree
     past_first : (n : ℕ) → x ≡ a → test (row t i) (key (suc n) a b c) ≡ test (y ∷ z ∷ drop 3 (row t i)) (take n (b ∷ c ∷ []))
     past_first n e = begun _ ∙ w.same x a _ _ e
 
     pub key-1 : (n : ℕ) → n ≡ 1 → x ≡ a → test (row t i) (key n a b c) ≡ end
     key-1 n m e = rw m (past_first 0 e ∙ w.none _)
+
+    pub second-last : (n : ℕ) → n ≡ 2 → x ≡ a → test (row t i) (key n a b c) ≡ one y b
+    second-last n m e = rw m (past_first 1 e ∙ last y b _)
 
     pub second-apart : (n : ℕ) → (n ≡ 0 → ⊥) → (n ≡ 1 → ⊥) → x ≡ a → (y ≡ b → ⊥) → test (row t i) (key n a b c) ≡ one y b
     second-apart zero m o e d = absurd (m refl)

@@ -1,6 +1,6 @@
 -- 01, "Refusal numbers": the check of three tables gives 1, 2, 3.
 use Rattle.std.specs.Prelude.{ℕ, ◌%◌, List, [], ◌∷◌, Bool, true, false, not, ◌&&◌, ◌||◌, length, eqb}
-use Rattle.refusal.specs.declared.Verdict.{Verdict}
+use Rattle.refusal.specs.Verdict.{Verdict}
 use Rattle.refusal.specs.Verdict.{refuse_if, or_else, refuse_first}
 use Rattle.datom.specs.Fact.{words, avet_row, eavt_row}
 use Rattle.tables.specs.Rows.{rows_of, ascending, fact_of}

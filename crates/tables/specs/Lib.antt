@@ -1,3 +1,4 @@
 pub mod Rows
 pub mod Check
 pub mod Passed
+pub mod Sought

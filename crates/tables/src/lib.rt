@@ -1,66 +1,123 @@
 // Sorted tables of facts (01, "Tables and rows"): their check, and the range finder. Added: the Rust has tree iterators here.
 #![tactic(auto)]
 
-ghost use Rattle.std.specs.Prelude.{◌≡◌, true, [], ◌∷◌, ◌<◌};
+ghost use Rattle.std.specs.Prelude.{◌≡◌, true, [], ◌∷◌, ◌<◌, Ok};
 ghost use Rattle.tables.specs.Rows.{count, row, rows_of, before, ascending, begins, key, FirstRow, PastRows, Range};
-ghost use Rattle.tables.specs.Check.{is_among, lengths_fault, missing_fault, tables_fault};
+ghost use Rattle.tables.specs.Check.{is_among, lengths_fault, order_fault, missing_fault, tables_fault};
+ghost use Rattle.tables.specs.Sought.{sought};
 
 use datom::WORDS;
-use refusal::{Verdict, refuse};
+use refusal::{Rule, Verdict, refuse};
 
 // The words that order a table's rows, and that a key can have.
 pub const KEY_WORDS: usize = 3;
 
-// The check of three tables: that nothing is wrong, or the first refusal.
-pub fn check_tables(aevt: &[u64], avet: &[u64], eavt: &[u64]) -> Verdict
-    ensures { result ≡ tables_fault aevt.now avet.now eavt.now }
-{
-    let lengths = check_lengths(aevt.len(), avet.len(), eavt.len());
-    if let Verdict::Refused(_) = lengths {
-        return lengths;
+// A key: the first `inputs` of three words.
+#[derive(Clone, Copy)]
+struct Key {
+    inputs: usize,
+    first: u64,
+    second: u64,
+    third: u64,
+}
+
+impl Key {
+    // All three words.
+    fn whole(first: u64, second: u64, third: u64) -> Key
+        ensures { sought result ≡ first ∷ second ∷ third ∷ [] }
+    {
+        Key {
+            inputs: KEY_WORDS,
+            first,
+            second,
+            third,
+        }
     }
-    if !is_ascending(aevt) {
-        return refuse(refusal::TABLE_ORDER, 0);
+
+    // Whether row i comes before the key. There is no largest key: 2^64 - 1 is a word like others.
+    fn is_after(&self, table: &[u64], i: usize) -> bool
+        requires { i < count table.now }
+        ensures { result ≡ before (row table.now i) (sought self.now) }
+    {
+        if self.inputs == 0 {
+            return false;
+        }
+        let word = table[WORDS * i];
+        if self.inputs == 1 || word != self.first {
+            return word < self.first;
+        }
+        let word = table[WORDS * i + 1];
+        if self.inputs == 2 || word != self.second {
+            return word < self.second;
+        }
+        table[WORDS * i + 2] < self.third
     }
-    if !is_ascending(avet) {
-        return refuse(refusal::TABLE_ORDER, 1);
+
+    // Whether row i begins with the key.
+    fn begins(&self, table: &[u64], i: usize) -> bool
+        requires { i < count table.now }
+        ensures { result ≡ begins (row table.now i) (sought self.now) }
+    {
+        self.inputs == 0
+            || table[WORDS * i] == self.first
+                && (self.inputs == 1
+                    || table[WORDS * i + 1] == self.second
+                        && (self.inputs == 2 || table[WORDS * i + 2] == self.third))
     }
-    if !is_ascending(eavt) {
-        return refuse(refusal::TABLE_ORDER, 2);
+}
+
+// Three tables of the same facts, lent: one for each index.
+#[derive(Clone, Copy)]
+pub struct Tables<'a> {
+    pub aevt: &'a [u64],
+    pub avet: &'a [u64],
+    pub eavt: &'a [u64],
+}
+
+impl Tables<'_> {
+    // That nothing is wrong with them, or the first refusal.
+    #[tactic(auto, unfolding(crate::specs::Check::tables_fault))]
+    pub fn check(&self) -> Verdict
+        ensures { result ≡ tables_fault self.now.aevt.now self.now.avet.now self.now.eavt.now }
+    {
+        check_lengths(self.aevt.len(), self.avet.len(), self.eavt.len())?;
+        check_order(self.aevt, 0)?;
+        check_order(self.avet, 1)?;
+        check_order(self.eavt, 2)?;
+        check_missing(self.aevt, self.avet, self.eavt)
     }
-    check_missing(aevt, avet, eavt)
 }
 
 // 1: a table's length is no multiple of the words a row, or lengths differ.
 fn check_lengths(aevt: usize, avet: usize, eavt: usize) -> Verdict
     ensures { result ≡ lengths_fault aevt avet eavt }
 {
-    if aevt % WORDS != 0 {
-        return refuse(refusal::TABLE_LENGTH, 0);
+    if aevt % WORDS != 0 || avet != aevt || eavt != aevt {
+        return refuse(Rule::TableLength, 0);
     }
-    if avet != aevt {
-        return refuse(refusal::TABLE_LENGTH, 0);
+    Ok(())
+}
+
+// 2: a table is not strictly ascending.
+fn check_order(table: &[u64], place: usize) -> Verdict
+    ensures fault { result ≡ order_fault table.now place }
+    ensures fine { result ≡ Ok tt → ascending (rows_of table.now) ≡ true }
+{
+    if !is_ascending(table) {
+        return refuse(Rule::TableOrder, place);
     }
-    if eavt != aevt {
-        return refuse(refusal::TABLE_LENGTH, 0);
-    }
-    Verdict::Fine
+    Ok(())
 }
 
 // Whether each row comes before the next.
 fn is_ascending(table: &[u64]) -> bool
     ensures { result ≡ ascending (rows_of table.now) }
 {
-    let count = table.len() / WORDS;
-    let mut i = 1;
-    while i < count {
-        let first = table[WORDS * i];
-        let second = table[WORDS * i + 1];
-        let third = table[WORDS * i + 2];
-        if !comes_before(table, i - 1, KEY_WORDS, first, second, third) {
+    for i in 1..table.len() / WORDS {
+        let key = Key::whole(table[WORDS * i], table[WORDS * i + 1], table[WORDS * i + 2]);
+        if !key.is_after(table, i - 1) {
             return false;
         }
-        i += 1;
     }
     true
 }
@@ -70,33 +127,24 @@ fn check_missing(aevt: &[u64], avet: &[u64], eavt: &[u64]) -> Verdict
     requires { (ascending (rows_of avet.now) ≡ true) × (ascending (rows_of eavt.now) ≡ true) }
     ensures { result ≡ missing_fault (rows_of avet.now) (rows_of eavt.now) (rows_of aevt.now) 0 }
 {
-    let count = aevt.len() / WORDS;
-    let mut i = 0;
-    while i < count {
+    for i in 0..aevt.len() / WORDS {
         let attribute = aevt[WORDS * i];
         let entity = aevt[WORDS * i + 1];
         let value = aevt[WORDS * i + 2];
-        if !is_row(avet, attribute, value, entity) {
-            return refuse(refusal::TABLE_MISSING, i);
+        if !is_row(avet, attribute, value, entity) || !is_row(eavt, entity, attribute, value) {
+            return refuse(Rule::TableMissing, i);
         }
-        if !is_row(eavt, entity, attribute, value) {
-            return refuse(refusal::TABLE_MISSING, i);
-        }
-        i += 1;
     }
-    Verdict::Fine
+    Ok(())
 }
 
 // Whether a row of these words is in the table: of an ascending one, it is where the first that does not come before it stands.
 fn is_row(table: &[u64], first: u64, second: u64, third: u64) -> bool
     ensures { ascending (rows_of table.now) ≡ true → result ≡ is_among (first ∷ second ∷ third ∷ []) (rows_of table.now) }
 {
-    let i = first_row(table, KEY_WORDS, first, second, third);
-    if i < table.len() / WORDS {
-        begins_with(table, i, KEY_WORDS, first, second, third)
-    } else {
-        false
-    }
+    let key = Key::whole(first, second, third);
+    let i = first_row(table, &key);
+    i < table.len() / WORDS && key.begins(table, i)
 }
 
 // The rows that begin with the key, the first `inputs` of the three words, as a part of the table that starts in its middle. `begin`
@@ -111,21 +159,27 @@ pub fn range<'a>(
 ) -> &'a [u64]
     ensures { Range table.now (key inputs first second third) result.now begin.new }
 {
-    let from = first_row(table, inputs, first, second, third);
-    let to = past_rows(table, from, inputs, first, second, third);
+    let key = Key {
+        inputs,
+        first,
+        second,
+        third,
+    };
+    let from = first_row(table, &key);
+    let to = past_rows(table, from, &key);
     *begin = from;
     &table[WORDS * from..WORDS * to]
 }
 
 // The first row that does not come before the key, by halves.
-fn first_row(table: &[u64], inputs: usize, first: u64, second: u64, third: u64) -> usize
-    ensures { FirstRow table.now (key inputs first second third) result }
+fn first_row(table: &[u64], key: &Key) -> usize
+    ensures { FirstRow table.now (sought key.now) result }
 {
     let mut low = 0;
     let mut high = table.len() / WORDS;
     while low < high {
         let middle = low + (high - low) / 2;
-        if comes_before(table, middle, inputs, first, second, third) {
+        if key.is_after(table, middle) {
             low = middle + 1;
         } else {
             high = middle;
@@ -135,25 +189,19 @@ fn first_row(table: &[u64], inputs: usize, first: u64, second: u64, third: u64) 
 }
 
 // Past the rows that begin with the key, which stand from `from` on: in steps of 1, 2, 4 and so on rows, and by halves within the last.
-fn past_rows(
-    table: &[u64],
-    from: usize,
-    inputs: usize,
-    first: u64,
-    second: u64,
-    third: u64,
-) -> usize
-    requires { FirstRow table.now (key inputs first second third) from }
-    ensures { PastRows table.now (key inputs first second third) from result }
+fn past_rows(table: &[u64], from: usize, key: &Key) -> usize
+    requires { FirstRow table.now (sought key.now) from }
+    ensures { PastRows table.now (sought key.now) from result }
 {
     let mut low = from;
     let mut high = table.len() / WORDS;
     let mut step = 1;
     // A step looks at its last row. Where that row does not begin with the key, the end is within the step, which is then longer than
     // what is left. Most ranges are short, and an empty one costs one look.
+    // Not a `for`: how far a step goes depends on what the one before found.
     while step <= high - low {
         let last = low + (step - 1);
-        if begins_with(table, last, inputs, first, second, third) {
+        if key.begins(table, last) {
             low = last + 1;
             step = 2 * step;
         } else {
@@ -162,59 +210,11 @@ fn past_rows(
     }
     while low < high {
         let middle = low + (high - low) / 2;
-        if begins_with(table, middle, inputs, first, second, third) {
+        if key.begins(table, middle) {
             low = middle + 1;
         } else {
             high = middle;
         }
     }
     low
-}
-
-// Whether row i comes before the key. There is no largest key: 2^64 - 1 is a word like others.
-fn comes_before(table: &[u64], i: usize, inputs: usize, first: u64, second: u64, third: u64) -> bool
-    requires { i < count table.now }
-    ensures { result ≡ before (row table.now i) (key inputs first second third) }
-{
-    if inputs == 0 {
-        return false;
-    }
-    let word = table[WORDS * i];
-    if word != first {
-        return word < first;
-    }
-    if inputs == 1 {
-        return false;
-    }
-    let word = table[WORDS * i + 1];
-    if word != second {
-        return word < second;
-    }
-    if inputs == 2 {
-        return false;
-    }
-    table[WORDS * i + 2] < third
-}
-
-// Whether row i begins with the key.
-fn begins_with(table: &[u64], i: usize, inputs: usize, first: u64, second: u64, third: u64) -> bool
-    requires { i < count table.now }
-    ensures { result ≡ begins (row table.now i) (key inputs first second third) }
-{
-    if inputs == 0 {
-        return true;
-    }
-    if table[WORDS * i] != first {
-        return false;
-    }
-    if inputs == 1 {
-        return true;
-    }
-    if table[WORDS * i + 1] != second {
-        return false;
-    }
-    if inputs == 2 {
-        return true;
-    }
-    table[WORDS * i + 2] == third
 }

@@ -5,7 +5,7 @@ use mathlib.Core.List.{List, ◌∷◌, ◌++◌}
 use Prim.Native.Nat.{ℕ, ◌*◌, ◌^◌, ◌<◌}
 use native.Mathlib.Omega.{arith}
 use lib.ListN.{length}
-use Rattle.refusal.specs.declared.Verdict.TheVariants.{Fine}
+use Rattle.std.specs.Prelude.{Ok}
 use Rattle.datom.specs.Fact.{words, aevt_row, avet_row, eavt_row}
 use Rattle.tables.specs.Rows.{flat}
 use Rattle.tables_build.specs.Build.{heap_fault, built_rows}
@@ -22,7 +22,7 @@ abbrev pub table_numbers : List ℕ → List ℕ → List ℕ → List ℕ
 table_numbers a b c = length a ∷ (a ++ (length b ∷ (b ++ (length c ∷ c))))
 
 -- what is written for a text that holds a heap, and is not refused, says the three parts of a question: those of its tables
-pub answer-said : (text : List ℕ) → holds_heap text ≡ true → heap_fault (length (heap_in text)) heap_words heap_words heap_words ≡ Fine →
+pub answer-said : (text : List ℕ) → holds_heap text ≡ true → heap_fault (length (heap_in text)) heap_words heap_words heap_words ≡ Ok tt →
     let h = heap_in text in
     said (heap_answer_to text) ≡ record { inside = true; words = table_numbers (flat (built_rows aevt_row h)) (flat (built_rows avet_row h)) (flat (built_rows eavt_row h)) }
 unfolding heap_answer_to heap_answer_for

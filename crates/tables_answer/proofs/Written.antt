@@ -2,15 +2,15 @@
 use mathlib.Core.Path.{◌≡◌, refl, sym, ap, ◌∙◌}
 use mathlib.Core.Bool.{Bool, true, false, not, ◌||◌}
 use mathlib.Core.List.{List, ◌++◌}
-use Prim.Native.Nat.{ℕ, ◌+◌, ◌*◌, ◌-◌, ◌%◌, ◌^◌, ◌≤◌, ◌<◌}
+use Prim.Native.Nat.{ℕ, ◌+◌, ◌*◌, ◌%◌, ◌^◌, ◌≤◌, ◌<◌}
 use native.Mathlib.Omega.{arith}
 use lib.ListN.{length, take, drop, get_or, length-append}
 use lib.Seq.{take_all, take_at}
 use lib.Dec.{ltb, eqb}
-use Rattle.refusal.specs.declared.Verdict.{Verdict}
-use Rattle.refusal.specs.declared.Verdict.TheVariants.{Fine, Refused}
+use Rattle.refusal.specs.Verdict.{Verdict}
+use Rattle.std.specs.Prelude.{Ok, Err}
 use Rattle.refusal.specs.declared.Refusal.{Refusal}
-use Rattle.refusal.specs.Verdict.{refuse_if, or_else, unless}
+use Rattle.refusal.specs.Verdict.{refuse_if, or_else, unless, answer, number_in}
 use Rattle.datom.specs.Fact.{words, aevt_row, avet_row, eavt_row}
 use Rattle.text_pieces.specs.Ascii.{ascii}
 use Rattle.text_pieces.specs.Decimal.{decimal}
@@ -18,12 +18,11 @@ use Rattle.text_pieces.specs.Written.{Written}
 use Rattle.ask_lines.specs.Lines.{outside_line, refusal_line, refusal_text, row_lines, word_bytes}
 use Rattle.ask_lines.proofs.Lengths.{word-short, refusal-short, rows_short}
 use Rattle.tables.specs.Rows.{flat}
-use Rattle.tables_build.specs.declared.Built.{Built}
+use Rattle.tables_build.specs.Answered.{Built}
 use Rattle.tables_build.specs.Build.{heap_fault, built_rows, build_of, built_over}
 use Rattle.tables_build.proofs.Theorem.{aevt-long, avet-long, eavt-long}
 use Rattle.tables_answer.specs.Capacity.{heap_words, answer_bytes}
-use Rattle.tables_answer.specs.Answer.{table_part, table_parts, heap_answer_for, heap_answer_to}
-use Rattle.tables_answer.specs.Reads.{ReadsHeap}
+use Rattle.tables_answer.specs.Answer.{holds_heap, heap_in, table_part, table_parts, heap_answer_for, heap_answer_to}
 
 -- a text is written to the front of a buffer, and is no longer than an answer can be
 abbrev pub Answered : List ℕ → List ℕ → ℕ → List ℕ → Type 0
@@ -44,7 +43,7 @@ unfolding table_part
 part-written t w n h = (w, omega (arith, part-short t n h, w.position_is))
 
 -- a buffer's front after building
-module _ (rows : List (List ℕ)) (t : List ℕ) {v : Verdict} {t' : List ℕ} {n : ℕ} (fine : v ≡ Fine) (e : t' ≡ built_over v rows t) (long : length (flat rows) ≡ n) where
+module _ (rows : List (List ℕ)) (t : List ℕ) {v : Verdict} {t' : List ℕ} {n : ℕ} (fine : v ≡ Ok tt) (e : t' ≡ built_over v rows t) (long : length (flat rows) ≡ n) where
   laid : t' ≡ flat rows ++ drop (words * length rows) t
   laid = e ∙ rw fine refl
 
@@ -58,19 +57,19 @@ module _ (h : List ℕ) (a b c : ℕ) {r : Built} (e : r ≡ build_of h a b c) w
   verdict_is : r.verdict ≡ heap_fault (length h) a b c
   verdict_is = go (heap_fault (length h) a b c) e
     where
-      go : (v : Verdict) → r ≡ unless {A = Built} v (λ w. record { verdict = w; count = 0 }) (record { verdict = Fine; count = length (built_rows aevt_row h) }) → r.verdict ≡ v
-      go Fine p = ap (λ (x : Built). x.verdict) p
-      go (Refused q) p = ap (λ (x : Built). x.verdict) p
+      go : (v : Verdict) → r ≡ unless {A = Built} v (λ w. record { verdict = w; count = 0 }) (record { verdict = Ok tt; count = length (built_rows aevt_row h) }) → r.verdict ≡ v
+      go (Ok tt) p = ap (λ (x : Built). x.verdict) p
+      go (Err q) p = ap (λ (x : Built). x.verdict) p
 
-  module _ (fine : r.verdict ≡ Fine) where
+  module _ (fine : r.verdict ≡ Ok tt) where
     count_is : r.count * words ≡ words * length (built_rows aevt_row h)
     count_is =
-        let built : r ≡ record { verdict = Fine; count = length (built_rows aevt_row h) } = e ∙ rw (sym verdict_is ∙ fine) refl in
+        let built : r ≡ record { verdict = Ok tt; count = length (built_rows aevt_row h) } = e ∙ rw (sym verdict_is ∙ fine) refl in
         let many : r.count ≡ length (built_rows aevt_row h) = ap (λ (x : Built). x.count) built in
         omega arith
 
     -- the rows fit
-    pub count_fits : {t : List ℕ} (t₀ : List ℕ) → t ≡ built_over r.verdict (built_rows aevt_row h) t₀ → r.count * words ≤ length t
+    count_fits : {t : List ℕ} (t₀ : List ℕ) → t ≡ built_over r.verdict (built_rows aevt_row h) t₀ → r.count * words ≤ length t
     count_fits t₀ p = fits (built_rows aevt_row h) t₀ fine p (aevt-long h ∙ sym count_is)
 
 -- the longest refusal line of a heap
@@ -81,29 +80,63 @@ fault-short false false = omega arith
 
 module _ (h : List ℕ) (a b c : ℕ) {n : ℕ} {r : Built} {out out' : List ℕ} (p : a ≡ heap_words) (q : b ≡ heap_words) (s : c ≡ heap_words) (e : r ≡ build_of h a b c) where
   -- refused: its line
-  pub answer-refused : {x : Refusal} → r.verdict ≡ Refused x → Written (refusal_line x.number x.place) 0 out n out' → Answered (heap_answer_for h) out n out'
+  answer-refused : {x : Refusal} → r.verdict ≡ Err x → Written (refusal_line (number_in x.rule) x.place) 0 out n out' → Answered (heap_answer_for h) out n out'
   unfolding heap_answer_for
   answer-refused {x} f w =
-      let fault : heap_fault (length h) heap_words heap_words heap_words ≡ Refused x = rw (p, q, s) at (sym (verdict_is h a b c e) ∙ f) in
-      let short : length (refusal_line x.number x.place) ≤ answer_bytes = rw fault at (fault-short (not (eqb (length h % words) 0)) (ltb heap_words (length h) || ltb heap_words (length h) || ltb heap_words (length h))) in
+      let fault : heap_fault (length h) heap_words heap_words heap_words ≡ Err x = rw (p, q, s) at (sym (verdict_is h a b c e) ∙ f) in
+      let short : length (refusal_line (number_in x.rule) x.place) ≤ answer_bytes = rw fault at (fault-short (not (eqb (length h % words) 0)) (ltb heap_words (length h) || ltb heap_words (length h) || ltb heap_words (length h))) in
       (rw fault w, omega (arith, w.position_is))
 
   -- else the fronts of the buffers
-  pub answer-built : (a₀ b₀ c₀ : List ℕ) {a' b' c' : List ℕ} → r.verdict ≡ Fine → a' ≡ built_over r.verdict (built_rows aevt_row h) a₀ → b' ≡ built_over r.verdict (built_rows avet_row h) b₀
+  answer-built : (a₀ b₀ c₀ : List ℕ) {a' b' c' : List ℕ} → r.verdict ≡ Ok tt → a' ≡ built_over r.verdict (built_rows aevt_row h) a₀ → b' ≡ built_over r.verdict (built_rows avet_row h) b₀
       → c' ≡ built_over r.verdict (built_rows eavt_row h) c₀
       → Answered (table_parts (take (r.count * words) a') (take (r.count * words) b') (take (r.count * words) c')) out n out' → Answered (heap_answer_for h) out n out'
   unfolding heap_answer_for
   answer-built a₀ b₀ c₀ fine x y z w =
-      let fault : heap_fault (length h) heap_words heap_words heap_words ≡ Fine = rw (p, q, s) at (sym (verdict_is h a b c e) ∙ fine) in
+      let fault : heap_fault (length h) heap_words heap_words heap_words ≡ Ok tt = rw (p, q, s) at (sym (verdict_is h a b c e) ∙ fine) in
       let many = count_is h a b c e fine in
       rw fault (rw (front (built_rows aevt_row h) a₀ fine x (aevt-long h ∙ sym many), front (built_rows avet_row h) b₀ fine y (avet-long h ∙ sym many), front (built_rows eavt_row h) c₀ fine z (eavt-long h ∙ sym many)) at w)
 
 -- of a text
-module _ {text words : List ℕ} {count n : ℕ} {out out' : List ℕ} (r : ReadsHeap text count words) where
-  pub outside-answered : count ≡ 0 → Written outside_line 0 out n out' → Answered (heap_answer_to text) out n out'
+module _ (text : List ℕ) {n : ℕ} {out out' : List ℕ} where
+  pub outside-answered : holds_heap text ≡ false → Written outside_line 0 out n out' → Answered (heap_answer_to text) out n out'
   unfolding heap_answer_to
-  outside-answered e w = (rw (r.nothing e) w, omega (arith, w.position_is))
+  outside-answered e w = (rw e w, omega (arith, w.position_is))
 
-  pub heap-answered : 0 < count → Answered (heap_answer_for (take (count - 1) (drop 1 words))) out n out' → Answered (heap_answer_to text) out n out'
+  pub heap-answered : {h : List ℕ} → (holds_heap text ≡ true) × (h ≡ heap_in text) → Answered (heap_answer_for h) out n out' → Answered (heap_answer_to text) out n out'
   unfolding heap_answer_to
-  heap-answered h w = rw (r.heap h).0 (rw (r.heap h).1 at w)
+  heap-answered e w = rw e.0 (rw e.1 at w)
+
+-- what an answer says of the verdict that it is made of
+answer-fine : (v : Verdict) (k n : ℕ) → Ok n ≡ answer v k → (v ≡ Ok tt) × (k ≡ n)
+answer-fine (Ok tt) k n e = (refl, cc)
+answer-fine (Err r) k n e = absurd (let z : ◌≡◌ {A = ℕ} 0 1 = cc in omega arith)
+
+answer-err : (v : Verdict) (k : ℕ) (x : Refusal) → Err x ≡ answer v k → v ≡ Err x
+answer-err (Ok tt) k x e = absurd (let z : ◌≡◌ {A = ℕ} 0 1 = cc in omega arith)
+answer-err (Err r) k x e = cc
+
+-- three buffers a₀, b₀, c₀ in which the tables of a heap were built
+abbrev pub told : List ℕ → List ℕ → List ℕ → List ℕ → Built
+told h a₀ b₀ c₀ = build_of h (length a₀) (length b₀) (length c₀)
+
+module _ (h a₀ b₀ c₀ a b c : List ℕ) where
+  pub rows-fit : {n : ℕ} → Ok n ≡ answer (told h a₀ b₀ c₀).verdict (told h a₀ b₀ c₀).count → a ≡ built_over (told h a₀ b₀ c₀).verdict (built_rows aevt_row h) a₀
+      → n * words ≤ length a
+  rows-fit {n} e f =
+      let x = answer-fine (told h a₀ b₀ c₀).verdict (told h a₀ b₀ c₀).count n e in
+      rw x.1 at (count_fits h (length a₀) (length b₀) (length c₀) {r = told h a₀ b₀ c₀} refl x.0 a₀ f)
+
+  module _ {k : ℕ} {out out' : List ℕ} (x : length a₀ ≡ heap_words) (y : length b₀ ≡ heap_words) (z : length c₀ ≡ heap_words) where
+    pub heap-built : {n : ℕ} → Ok n ≡ answer (told h a₀ b₀ c₀).verdict (told h a₀ b₀ c₀).count
+        → a ≡ built_over (told h a₀ b₀ c₀).verdict (built_rows aevt_row h) a₀ → b ≡ built_over (told h a₀ b₀ c₀).verdict (built_rows avet_row h) b₀
+        → c ≡ built_over (told h a₀ b₀ c₀).verdict (built_rows eavt_row h) c₀
+        → Answered (table_parts (take (n * words) a) (take (n * words) b) (take (n * words) c)) out k out' → Answered (heap_answer_for h) out k out'
+    heap-built {n} e f g i w =
+        let m = answer-fine (told h a₀ b₀ c₀).verdict (told h a₀ b₀ c₀).count n e in
+        answer-built h (length a₀) (length b₀) (length c₀) {r = told h a₀ b₀ c₀} x y z refl a₀ b₀ c₀ m.0 f g i (rw m.1 w)
+
+    pub heap-refused : {r : Refusal} → Err r ≡ answer (told h a₀ b₀ c₀).verdict (told h a₀ b₀ c₀).count
+        → Written (refusal_line (number_in r.rule) r.place) 0 out k out' → Answered (heap_answer_for h) out k out'
+    heap-refused {r} e w =
+        answer-refused h (length a₀) (length b₀) (length c₀) {r = told h a₀ b₀ c₀} x y z refl (answer-err (told h a₀ b₀ c₀).verdict (told h a₀ b₀ c₀).count r e) w

@@ -1,3 +1,2 @@
 pub mod Capacity
 pub mod Answer
-pub mod Reads

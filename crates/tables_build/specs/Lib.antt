@@ -1,3 +1,4 @@
+pub mod Answered
 pub mod Build
 pub mod Meaning
 pub mod Order

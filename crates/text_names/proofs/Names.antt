@@ -5,7 +5,7 @@ use mathlib.Core.List.{List}
 use Prim.Native.Nat.{ℕ, ◌-◌, ◌≤◌, ◌<◌, min}
 use native.Mathlib.Nat.{eq-or-lt_of_le, min-le_left}
 use native.Mathlib.Omega.{arith}
-use lib.ListN.{length, take, drop, get_or, drop_of_length-le, length-drop, length-take, get_or-eq_default}
+use lib.ListN.{length, take, drop, drop_of_length-le, length-drop}
 use lib.Seq.{take_all, take-nil}
 
 -- the part of a list between two places, and the same where these are not within the list
@@ -23,7 +23,3 @@ part-clipped from to l =
     (λ (past : min to (length l) < to). let gone : length l ≤ from = omega arith in sym (ap (take (to - from)) (drop_of_length-le l gone) ∙ take-nil (to - from)))
     (eq-or-lt_of_le (min-le_left to (length l))) in
     ⊎_elim inside empty (eq-or-lt_of_le (min-le_left from (min to (length l))))
-
--- past the counted elements, and past the list, there is none
-pub none-past : {A : Type 0} (l : List A) (n i : ℕ) (d : A) → min n (length l) ≤ i → get_or (take n l) i d ≡ d
-none-past l n i d h = get_or-eq_default (take n l) d (rw (length-take n l) h)

@@ -1,6 +1,6 @@
 -- 01, "Plan text": names come as one byte slice with an end per slot; the first starts at 0, each other at the end before it.
 use Rattle.std.specs.Prelude.{ℕ, zero, suc, ◌-◌, List, [], ◌∷◌, Bool, false, not, ◌||◌, length, get_or, take, drop, ltb, leb, eqb}
-use Rattle.refusal.specs.declared.Verdict.{Verdict}
+use Rattle.refusal.specs.Verdict.{Verdict}
 use Rattle.refusal.specs.Verdict.{refuse_if, or_else, unless}
 use Rattle.plan.specs.declared.Plan.{Plan}
 use Rattle.plan.specs.Plan.{zero_slot, slots_selected}

@@ -9,52 +9,45 @@
 // what the Rust panics at is refused with a number.
 #![tactic(auto)]
 
-ghost use Rattle.std.specs.Prelude.{◌≡◌, min, take, get_or};
+ghost use Rattle.std.specs.Prelude.{◌≡◌, take, get_or};
 ghost use Rattle.text_names.specs.Names.{name_start, name_of, wrong_end, ends_fault, names_fault, select_name_fault, select_name_of};
-ghost use Rattle.plan.specs.Plan.{constant_at, zero_slot};
+ghost use Rattle.plan.specs.Plan.{constant_at};
 
-use capacity::{MAX_SELECTS, MAX_SLOTS};
+use capacity::MAX_SLOTS;
 use plan::{Plan, Slot, SlotRecord};
-use refusal::{Verdict, refuse};
+use refusal::{Rule, Verdict, refuse};
 
 // The first name starts here, each other at the end before it.
 const FIRST_START: usize = 0;
 
 // What stands against asking the name of the variable selected by the `index`-th select: the first refusal, or nothing.
+#[tactic(auto, unfolding(crate::specs::Names::select_name_fault))]
 pub fn check_select_name(plan: Plan, names: &[u8], ends: &[usize], index: usize) -> Verdict
     ensures { result ≡ select_name_fault plan names.now ends.now index }
 {
-    let checked = check_names(plan, names, ends);
-    if let Verdict::Refused(_) = checked {
-        return checked;
-    }
+    check_names(plan, names, ends)?;
     if plan.select_count <= index {
-        return refuse(refusal::NO_SUCH_SELECT, index);
+        return refuse(Rule::NoSuchSelect, index);
     }
-    Verdict::Fine
+    Ok(())
 }
 
 // The name of the variable selected by the `index`-th select, a part of the names; of no bytes where that is refused.
 pub fn get_select_name<'a>(plan: Plan, names: &'a [u8], ends: &[usize], index: usize) -> &'a [u8]
     ensures { result.now ≡ select_name_of plan names.now ends.now index }
 {
-    let checked = check_select_name(plan, names, ends, index);
-    if let Verdict::Refused(_) = checked {
-        return &names[..0];
+    match check_select_name(plan, names, ends, index) {
+        Ok(()) => get_name(plan.select[index], names, ends),
+        Err(_) => &names[..0],
     }
-    let select = plan.select;
-    let slot = slot_at(select, plan.select_count, index);
-    get_name(slot, names, ends)
 }
 
 // The plan check, and then 30: what the text and a name begin with.
+#[tactic(auto, unfolding(crate::specs::Names::names_fault))]
 pub fn check_names(plan: Plan, names: &[u8], ends: &[usize]) -> Verdict
     ensures { result ≡ names_fault plan names.now ends.now }
 {
-    let checked = plan_check::check_invariants(plan);
-    if let Verdict::Refused(_) = checked {
-        return checked;
-    }
+    plan_check::check_invariants(plan)?;
     check_ends(names, ends, plan.slot_count)
 }
 
@@ -63,19 +56,16 @@ fn check_ends(names: &[u8], ends: &[usize], slot_count: usize) -> Verdict
     ensures { result ≡ ends_fault names.now ends.now slot_count }
 {
     if ends.len() != slot_count {
-        return refuse(refusal::NAME_ENDS, 0);
+        return refuse(Rule::NameEnds, 0);
     }
     let mut before = 0;
-    let mut i_slot = 0;
-    while i_slot < ends.len() {
-        let end = ends[i_slot];
-        if is_wrong_end(names.len(), before, end) {
-            return refuse(refusal::NAME_ENDS, 0);
+    for end in ends {
+        if is_wrong_end(names.len(), before, *end) {
+            return refuse(Rule::NameEnds, 0);
         }
-        before = end;
-        i_slot += 1;
+        before = *end;
     }
-    Verdict::Fine
+    Ok(())
 }
 
 // Whether an end falls below the one before it, or passes the name bytes there are.
@@ -89,9 +79,9 @@ fn is_wrong_end(bytes: usize, before: usize, end: usize) -> bool
 pub fn get_name<'a>(slot: Slot, names: &'a [u8], ends: &[usize]) -> &'a [u8]
     ensures { result.now ≡ name_of names.now ends.now slot.0 }
 {
-    let i_slot = slot.0 as usize;
-    let end = least(end_at(i_slot, ends), names.len());
-    let start = least(start_at(i_slot, ends), end);
+    let i_slot = usize::from(slot.0);
+    let end = end_at(i_slot, ends).min(names.len());
+    let start = start_at(i_slot, ends).min(end);
     &names[start..end]
 }
 
@@ -109,43 +99,13 @@ fn start_at(i_slot: usize, ends: &[usize]) -> usize
 fn end_at(i_slot: usize, ends: &[usize]) -> usize
     ensures { result ≡ get_or ends.now i_slot 0 }
 {
-    if i_slot < ends.len() {
-        return ends[i_slot];
-    }
-    0
+    ends.get(i_slot).copied().unwrap_or(0)
 }
 
-fn least(a: usize, b: usize) -> usize
-    ensures { result ≡ min a b }
-{
-    if a < b { a } else { b }
-}
-
-// Whether a slot is a constant, of the first `slot_count`.
+// Whether a slot is a constant, of the first `slot_count`. Not a slice, since a damaged count may pass the array.
 pub fn is_constant(slots: [SlotRecord; MAX_SLOTS], slot_count: usize, slot: Slot) -> bool
     ensures { result ≡ constant_at (take slot_count slots) slot.0 }
 {
-    let i_slot = slot.0 as usize;
-    if slot_count <= i_slot {
-        return false;
-    }
-    if MAX_SLOTS <= i_slot {
-        return false;
-    }
-    let record = slots[i_slot];
-    let definition = record.definition;
-    plan::is_constant(definition)
-}
-
-// The slot of a select, of the first `select_count`.
-fn slot_at(select: [Slot; MAX_SELECTS], select_count: usize, index: usize) -> Slot
-    ensures { result ≡ get_or (take select_count select) index zero_slot }
-{
-    if select_count <= index {
-        return Slot(0);
-    }
-    if MAX_SELECTS <= index {
-        return Slot(0);
-    }
-    select[index]
+    let i_slot = usize::from(slot.0);
+    i_slot < slot_count && i_slot < MAX_SLOTS && plan::is_constant(slots[i_slot].definition)
 }

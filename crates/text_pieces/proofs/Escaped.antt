@@ -2,18 +2,14 @@
 use mathlib.Core.Path.{◌≡◌, refl, sym, ap, ◌∙◌}
 use mathlib.Core.Bool.{Bool, true, false, not, ◌&&◌, cond, false≢true}
 use mathlib.Core.List.{List, [], ◌∷◌}
-use Prim.Native.Nat.{ℕ, ◌+◌, ◌/◌, ◌%◌, ◌≤◌}
+use Prim.Native.Nat.{ℕ, ◌+◌, ◌/◌, ◌%◌}
 use native.Mathlib.Omega.{arith}
-use borrow.Author.Tests.{le-leb, ne_eqb, ltb-true, ltb-false}
+use borrow.Author.Tests.{ne_eqb, ltb-true, ltb-false}
 use lib.Dec.{ltb, eqb}
 use Rattle.lists.specs.Every.{EveryPasses}
 use Rattle.lists.specs.Laid.{laid}
 use Rattle.lists.proofs.Every.{every_append}
 use Rattle.text_pieces.specs.Escaped.{is_plain, hex_digit, escaped_byte, escaped}
-
--- where every test but the last is decided
-pub plain-last : (b : ℕ) → 33 ≤ b → b ≤ 126 → (b ≡ 58 → ⊥) → (b ≡ 44 → ⊥) → (b ≡ 40 → ⊥) → (b ≡ 41 → ⊥) → not (eqb b 92) ≡ is_plain b
-plain-last b low high h₁ h₂ h₃ h₄ = rw (le-leb 33 b low, le-leb b 126 high, ne_eqb b 58 h₁, ne_eqb b 44 h₂, ne_eqb b 40 h₃, ne_eqb b 41 h₄)
 
 -- no colon and no space
 abbrev pub is_shown : ℕ → Bool

@@ -3,3 +3,4 @@ pub mod Decimal
 pub mod Digits
 pub mod OneAnswer
 pub mod Escaped
+pub mod Wrote

@@ -1,21 +1,20 @@
 -- Pieces written one after the other are their join, written at once.
 use mathlib.Core.Path.{◌≡◌, refl, sym, ap, ◌∙◌}
 use mathlib.Core.Logic.{⊎_elim}
-use mathlib.Core.List.{List, [], ◌∷◌, ◌++◌}
+use mathlib.Core.List.{List, [], ◌++◌, append_assoc}
 use Prim.Native.Nat.{ℕ, ◌+◌, ◌-◌, ◌≤◌, ◌<◌, min}
 use native.Mathlib.Nat.{eq-or-lt_of_le}
-use native.Mathlib.Numerals.{add-one}
 use native.Mathlib.Omega.{arith}
-use lib.ListN.{length, take, drop, set, get_or, length-append, take-append-drop, drop_of_length-le}
-use lib.Seq.{sets, length-sets, take-suc, length-take-le}
+use lib.ListN.{length, take, drop, length-append, take-append-drop, drop_of_length-le}
+use lib.Seq.{sets, sets-eq, length-sets, drop-drop, length-take-le}
 use Rattle.lists.proofs.Sets.{sets-append, sets-past}
 use Rattle.text_pieces.specs.Written.{largest, Written}
 
--- one byte more
-pub sets_more : (p l : List ℕ) (i j : ℕ) → j < length p → set (sets l i (take j p)) (i + j) (get_or p j 0) ≡ sets l i (take (j + 1) p)
-sets_more p l i j h =
-    let e : length (take j p) ≡ j = length-take-le j p (omega arith) in
-    sym (rw (add-one, take-suc p j 0 h, sets-append (take j p) (get_or p j 0 ∷ []) l i, e))
+-- bytes put over the middle of a buffer
+pub sets-mid : (p l : List ℕ) (i c : ℕ) → i + c ≤ length l → length p ≡ c → take i l ++ (p ++ drop c (drop i l)) ≡ sets l i p
+sets-mid p l i c h e =
+    let d : drop c (drop i l) ≡ drop (i + length p) l = rw (e, drop-drop c i l) refl in
+    rw d (sym (append_assoc (take i l) p (drop (i + length p) l)) ∙ sym (sets-eq p l i (omega arith)))
 
 -- the bytes that lie within the buffer are all that matters
 pub sets-fitting : (p l : List ℕ) (i c : ℕ) → c ≡ min (length p) (length l - i) → sets l i (take c p) ≡ sets l i p

@@ -2,3 +2,4 @@ pub mod Ascii
 pub mod Decimal
 pub mod Escaped
 pub mod Written
+pub mod Wrote

@@ -6,10 +6,9 @@ use mathlib.Core.List.{List, [], ◌∷◌}
 use mathlib.Core.Bool.{true}
 use native.Mathlib.Omega.{arith}
 use native.Mathlib.Nat.{not-suc-le-zero, le_of_suc-le-suc}
-use lib.ListN.{length, get_or, get_or-eq_default}
-use lib.Seq.{length-take-le, get_or-take}
-use Rattle.capacity.specs.Capacity.{max_statements, max_slots}
-use Rattle.refusal.specs.declared.Verdict.TheVariants.{Fine}
+use lib.ListN.{get_or, get_or-eq_default}
+use Rattle.capacity.specs.Capacity.{max_slots}
+use Rattle.std.specs.Prelude.{Ok}
 use Rattle.lists.specs.Padded.{padded}
 use Rattle.lists.specs.Tabled.{tabled}
 use Rattle.lists.proofs.Padded.{padded-length}
@@ -43,17 +42,13 @@ zeros_past f n m none = tabled-same f (padded 0 m (tabled f n)) 0 m (padded-leng
         (λ (l : n ≤ i). get_or-eq_default (tabled f n) 0 (rw (tabled-length f n) l) ∙ sym (none i l))
         (lt-or-ge i n))
 
-module _ (q : Query) (fine : plan_fault q ≡ Fine) (table : List ℕ) (ascends : is_table table ≡ true) where
+module _ (q : Query) (fine : plan_fault q ≡ Ok tt) (table : List ℕ) (ascends : is_table table ≡ true) where
   -- what the checks before the statements leave
-  pub query-typable : length q.where_statements.items ≡ max_statements → Typable q.where_statements.count q.where_statements.items table
-  query-typable long = record {
-    few_statements = (plannable q fine).few_statements;
+  pub query-typable : Typable (statements_of q) table
+  query-typable = record {
     low = λ i h.
-        let count = q.where_statements.count in
-        let items = q.where_statements.items in
-        let l = length-take-le count items (omega (arith, (plannable q fine).few_statements)) in
         below_more q.variable_count max_slots (omega (arith, (plannable q fine).few_slots)) _
-        (rw (get_or-take count items i zero_statement h) at (statements-below q.variable_count (statements_of q) 0 (plannable q fine).low i zero_statement (omega (arith, l))));
+        (statements-below q.variable_count (statements_of q) 0 (plannable q fine).low i zero_statement h);
     ascends = ascends;
   }
 

@@ -6,7 +6,7 @@ use mathlib.Core.List.{List, [], ◌∷◌, ◌++◌, append_assoc}
 use mathlib.Core.Bool.{Bool, true, false, not, ◌||◌, cond, or-true, false≢true}
 use borrow.Author.Tests.{eqb-true, eq-eqb, not-false}
 use lib.Dec.{eqb}
-use Rattle.refusal.specs.declared.Verdict.TheVariants.{Fine}
+use Rattle.std.specs.Prelude.{Ok}
 use Rattle.refusal.specs.Verdict.{refuse_if}
 use Rattle.refusal.proofs.Fine.{or-fine, refuse-fine}
 use Rattle.query.specs.declared.QueryValue.{QueryValue}
@@ -88,7 +88,7 @@ module _ (table : List ℕ) where
       fits-value = fits-value-as s.value refl (fits_last types before s h).value_fits
 
     -- where neither clashes, the types given fit the statement, whatever follows it
-    module _ (i : ℕ) (fine : statement_type_fault table before s i ≡ Fine) where
+    module _ (i : ℕ) (fine : statement_type_fault table before s i ≡ Ok tt) where
       pub fine-typed : is_typed table s.attribute.0 ≡ true
       fine-typed =
           let f = or-fine (refuse_if (clashes table (before ++ (s ∷ [])) s.entity.0 reference) 52 i) _ fine in
@@ -112,7 +112,7 @@ module _ (table : List ℕ) where
 
   -- so of all statements: none is refused where their attributes are there and some types fit
   pub fits-fine : (types : Assignment) (before ss : List Statement) (i : ℕ) → TypesFit table types (before ++ ss) → AllTyped table ss
-      → statements_type_fault table before ss i ≡ Fine
+      → statements_type_fault table before ss i ≡ Ok tt
   unfolding statements_type_fault AllTyped
   fits-fine types before [] i h a = refl
   fits-fine types before (s ∷ ss) i h a =
@@ -121,7 +121,7 @@ module _ (table : List ℕ) where
       rw (fits-entity before s types f, fits-value before s types f, a.0) (fits-fine types (before ++ (s ∷ [])) ss (i + 1) j a.1)
 
   -- and where none is refused, the attributes are there and the types given fit
-  pub fine-fits : (before ss : List Statement) (i : ℕ) → statements_type_fault table before ss i ≡ Fine
+  pub fine-fits : (before ss : List Statement) (i : ℕ) → statements_type_fault table before ss i ≡ Ok tt
       → AllTyped table ss × TypesFit table (type_given table (before ++ ss)) ss
   unfolding statements_type_fault AllTyped TypesFit
   fine-fits before [] i e = (tt, tt)

@@ -12,9 +12,9 @@ use lib.ListN.{length, get_or, take, replicate, get_or-eq_default}
 use lib.Seq.{take-suc}
 use Rattle.capacity.specs.Capacity.{max_slots}
 use Rattle.refusal.specs.declared.Refusal.{Refusal}
-use Rattle.refusal.specs.declared.Verdict.{Verdict}
-use Rattle.refusal.specs.declared.Verdict.TheVariants.{Fine, Refused}
-use Rattle.refusal.specs.Verdict.{refused, refuse_if, number_of, or_else, unless}
+use Rattle.refusal.specs.Verdict.{Verdict}
+use Rattle.std.specs.Prelude.{Ok, Err}
+use Rattle.refusal.specs.Verdict.{number_in, rule_of, refused, refuse_if, number_of, or_else, unless}
 use Rattle.refusal.proofs.Fine.{refuse-fine, or-fine}
 use Rattle.lists.specs.Tabled.{tabled}
 use Rattle.lists.proofs.Tabled.{tabled-length, tabled-at}
@@ -32,20 +32,20 @@ use Rattle.types.proofs.Fitting.{fits-same, fits-given, fits-fine, fine-fits}
 use Rattle.types.proofs.Stopped.{numbers-differ, Stopped, stopped, missing-there, clash-unfit}
 
 -- where some verdict is fine or refused, so is the answer
-unless-verdict : (v : Verdict) (types : List ℕ) → (unless v not_inferred (record { verdict = Fine; types = types })).verdict ≡ v
-unless-verdict Fine types = refl
-unless-verdict (Refused r) types = refl
+unless-verdict : (v : Verdict) (types : List ℕ) → (unless v not_inferred (record { verdict = Ok tt; types = types })).verdict ≡ v
+unless-verdict (Ok tt) types = refl
+unless-verdict (Err r) types = refl
 
-unless-refused : (v : Verdict) (types : List ℕ) (r : Refusal) → v ≡ Refused r
-    → (unless v not_inferred (record { verdict = Fine; types = types })).types ≡ replicate max_slots 0
-unless-refused Fine types r e = absurd (let z : ◌≡◌ {A = ℕ} 0 1 = cc in omega arith)
-unless-refused (Refused x) types r e = refl
+unless-refused : (v : Verdict) (types : List ℕ) (r : Refusal) → v ≡ Err r
+    → (unless v not_inferred (record { verdict = Ok tt; types = types })).types ≡ replicate max_slots 0
+unless-refused (Ok tt) types r e = absurd (let z : ◌≡◌ {A = ℕ} 0 1 = cc in omega arith)
+unless-refused (Err x) types r e = refl
 
 -- a refusal over 50 is not planning's, and not the table's
-beyond : (a : Verdict) (t : Bool) (b : Verdict) (n i : ℕ) → number_of a ≤ 16 → 50 < n → or_else a (or_else (refuse_if t 50 0) b) ≡ refused n i → b ≡ refused n i
-beyond Fine true b n i m h e = numbers-differ _ _ e (λ q. omega arith)
-beyond Fine false b n i m h e = e
-beyond (Refused r) t b n i m h e = numbers-differ _ _ e (λ q. omega arith)
+beyond : (a : Verdict) (t : Bool) (b : Verdict) (n i : ℕ) → number_of a ≤ 16 → 50 < number_in (rule_of n) → or_else a (or_else (refuse_if t 50 0) b) ≡ refused n i → b ≡ refused n i
+beyond (Ok tt) true b n i m h e = numbers-differ _ _ e (λ q. omega arith)
+beyond (Ok tt) false b n i m h e = e
+beyond (Err r) t b n i m h e = numbers-differ _ _ e (λ q. omega arith)
 
 module _ (q : Query) (table : List ℕ) where
   verdict : (inferred_of q table).verdict ≡ types_fault q table
@@ -54,18 +54,18 @@ module _ (q : Query) (table : List ℕ) where
 
   -- no check refuses it
   pub record Passed : Type 0 where
-    pub plans : plan_fault q ≡ Fine
+    pub plans : plan_fault q ≡ Ok tt
     pub table_there : is_table table ≡ true
-    pub statements_fine : statements_type_fault table [] (statements_of q) 0 ≡ Fine
+    pub statements_fine : statements_type_fault table [] (statements_of q) 0 ≡ Ok tt
 
-  passed : (inferred_of q table).verdict ≡ Fine → Passed
+  passed : (inferred_of q table).verdict ≡ Ok tt → Passed
   unfolding types_fault
   passed e =
       let f = or-fine (plan_fault q) _ (sym verdict ∙ e) in
       let g = or-fine (refuse_if (not (is_table table)) 50 0) _ f.1 in
       record { plans = f.0; table_there = not-false _ (refuse-fine _ _ _ g.0); statements_fine = g.1 }
 
-  fine : Passed → types_fault q table ≡ Fine
+  fine : Passed → types_fault q table ≡ Ok tt
   unfolding types_fault
   fine p = simp (p.plans, p.table_there) p.statements_fine
 
@@ -89,7 +89,7 @@ module _ (q : Query) (table : List ℕ) where
   types-fit : Passed → TypesFit table (types_in (inferred_of q table).types) (statements_of q)
   types-fit p = fits-same table _ _ (λ v. sym (types-given p v)) (statements_of q) (fine-fits table [] (statements_of q) 0 p.statements_fine).1
 
-  typable : (inferred_of q table).verdict ≡ Fine → CanBeTyped q table
+  typable : (inferred_of q table).verdict ≡ Ok tt → CanBeTyped q table
   typable e =
       let p = passed e in
       record {
@@ -100,7 +100,7 @@ module _ (q : Query) (table : List ℕ) where
         fits = types-fit p;
       }
 
-  answered : CanBeTyped q table → (inferred_of q table).verdict ≡ Fine
+  answered : CanBeTyped q table → (inferred_of q table).verdict ≡ Ok tt
   answered c =
       verdict ∙
       fine
@@ -110,7 +110,7 @@ module _ (q : Query) (table : List ℕ) where
         statements_fine = fits-fine table c.types [] (statements_of q) 0 c.fits c.attributes_there;
       })
 
-  well_typed : (inferred_of q table).verdict ≡ Fine → WellTyped q table (inferred_of q table).types
+  well_typed : (inferred_of q table).verdict ≡ Ok tt → WellTyped q table (inferred_of q table).types
   well_typed e =
       let p = passed e in
       record {
@@ -121,7 +121,7 @@ module _ (q : Query) (table : List ℕ) where
       }
 
   -- a refusal over 50 is a statement's
-  at-statement : (n i : ℕ) → 50 < n → (inferred_of q table).verdict ≡ refused n i → Stopped table [] (statements_of q) 0 (record { number = n; place = i })
+  at-statement : (n i : ℕ) → 50 < number_in (rule_of n) → (inferred_of q table).verdict ≡ refused n i → Stopped table [] (statements_of q) 0 (record { rule = rule_of n; place = i })
   unfolding types_fault
   at-statement n i h e = stopped table [] (statements_of q) 0 _ (beyond (plan_fault q) (not (is_table table)) _ n i (plan-within 16 (omega arith) q) h (sym verdict ∙ e))
 
@@ -148,7 +148,7 @@ module _ (q : Query) (table : List ℕ) where
             (rw p (rw (add-one, take-suc (statements_of q) i zero_statement (omega (arith, z.there))) at h));
       }
 
-  zeros : (x : Refusal) → (inferred_of q table).verdict ≡ Refused x → (inferred_of q table).types ≡ replicate max_slots 0
+  zeros : (x : Refusal) → (inferred_of q table).verdict ≡ Err x → (inferred_of q table).types ≡ replicate max_slots 0
   unfolding inferred_of
   zeros x e = unless-refused (types_fault q table) _ x (sym verdict ∙ e)
 

@@ -4,8 +4,10 @@ use Prim.Native.Nat.{ℕ}
 use mathlib.Core.List.{List}
 use Rattle.refusal.proofs.OneAnswer.{one_answer}
 use Rattle.query.specs.declared.Query.{Query}
-use Rattle.types.specs.declared.Inferred.{Inferred}
 use Rattle.types.specs.Types.{inferred_of}
+use Rattle.std.specs.Prelude.{Result}
+use Rattle.refusal.specs.declared.Refusal.{Refusal}
+use Rattle.refusal.specs.Verdict.{answer}
 
-pub types-one : (q : Query) (table : List ℕ) (r r' : Inferred) → r ≡ inferred_of q table → r' ≡ inferred_of q table → r ≡ r'
+pub types-one : (q : Query) (table : List ℕ) (r r' : Result (List ℕ) Refusal) → r ≡ answer (inferred_of q table).verdict (inferred_of q table).types → r' ≡ answer (inferred_of q table).verdict (inferred_of q table).types → r ≡ r'
 types-one q table r r' = one_answer

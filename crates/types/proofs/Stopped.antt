@@ -6,8 +6,8 @@ use mathlib.Core.Bool.{Bool, true, false, not}
 use native.Mathlib.Omega.{arith}
 use lib.ListN.{length, get_or, take}
 use Rattle.refusal.specs.declared.Refusal.{Refusal}
-use Rattle.refusal.specs.declared.Verdict.{Verdict}
-use Rattle.refusal.specs.declared.Verdict.TheVariants.{Fine, Refused}
+use Rattle.refusal.specs.Verdict.{Verdict}
+use Rattle.std.specs.Prelude.{Ok, Err}
 use Rattle.refusal.specs.Verdict.{refused, refuse_if, number_of, place_of, or_else}
 use Rattle.query.specs.declared.Statement.{Statement}
 use Rattle.query.specs.Query.{zero_statement}
@@ -20,7 +20,7 @@ pub numbers-differ : {A : Type 0} (v w : Verdict) → v ≡ w → (number_of v �
 numbers-differ v w e d = absurd (d (ap number_of e))
 
 -- what three tests refuse at a place is refused there
-tests-place : (a b c : Bool) (i : ℕ) (r : Refusal) → or_else (refuse_if a 52 i) (or_else (refuse_if b 51 i) (refuse_if c 52 i)) ≡ Refused r → i ≡ r.place
+tests-place : (a b c : Bool) (i : ℕ) (r : Refusal) → or_else (refuse_if a 52 i) (or_else (refuse_if b 51 i) (refuse_if c 52 i)) ≡ Err r → i ≡ r.place
 tests-place true b c i r e = ap place_of e
 tests-place false true c i r e = ap place_of e
 tests-place false false true i r e = ap place_of e
@@ -34,7 +34,7 @@ tests-second false true false i p e = numbers-differ _ _ e (λ q. omega arith)
 tests-second false false c i p e = refl
 
 -- and 52 is not
-tests-others : (b : Bool) (i p : ℕ) → or_else (refuse_if b 51 i) Fine ≡ refused 52 p → ⊥
+tests-others : (b : Bool) (i p : ℕ) → or_else (refuse_if b 51 i) (Ok tt) ≡ refused 52 p → ⊥
 tests-others true i p e = numbers-differ _ _ e (λ q. omega arith)
 tests-others false i p e = numbers-differ _ _ e (λ q. omega arith)
 
@@ -43,11 +43,11 @@ pub record Stopped (table : List ℕ) (before ss : List Statement) (i : ℕ) (r 
   pub at : ℕ
   pub there : at < length ss
   pub place : r.place ≡ i + at
-  pub fine_before : statements_type_fault table before (take at ss) i ≡ Fine
-  pub this : statement_type_fault table (before ++ take at ss) (get_or ss at zero_statement) r.place ≡ Refused r
+  pub fine_before : statements_type_fault table before (take at ss) i ≡ Ok tt
+  pub this : statement_type_fault table (before ++ take at ss) (get_or ss at zero_statement) r.place ≡ Err r
 
 module _ (table : List ℕ) where
-  first-stopped : (before : List Statement) (s : Statement) (ss : List Statement) (i : ℕ) (r : Refusal) → statement_type_fault table before s i ≡ Refused r
+  first-stopped : (before : List Statement) (s : Statement) (ss : List Statement) (i : ℕ) (r : Refusal) → statement_type_fault table before s i ≡ Err r
       → Stopped table before (s ∷ ss) i r
   unfolding statements_type_fault
   first-stopped before s ss i r e =
@@ -62,7 +62,7 @@ module _ (table : List ℕ) where
         this = rw (append-nil before) (ap (λ (j : ℕ). statement_type_fault table before s j) (sym p) ∙ e);
       }
 
-  later-stopped : (before : List Statement) (s : Statement) (ss : List Statement) (i : ℕ) (r : Refusal) → statement_type_fault table before s i ≡ Fine
+  later-stopped : (before : List Statement) (s : Statement) (ss : List Statement) (i : ℕ) (r : Refusal) → statement_type_fault table before s i ≡ Ok tt
       → Stopped table (before ++ (s ∷ [])) ss (i + 1) r → Stopped table before (s ∷ ss) i r
   unfolding statements_type_fault
   later-stopped before s ss i r f z = record {
@@ -73,16 +73,16 @@ module _ (table : List ℕ) where
     this = rw (append_assoc before (s ∷ []) (take z.at ss)) at z.this;
   }
 
-  pub stopped : (before ss : List Statement) (i : ℕ) (r : Refusal) → statements_type_fault table before ss i ≡ Refused r → Stopped table before ss i r
+  pub stopped : (before ss : List Statement) (i : ℕ) (r : Refusal) → statements_type_fault table before ss i ≡ Err r → Stopped table before ss i r
   unfolding statements_type_fault
   stopped before [] i r e = absurd (let z : ◌≡◌ {A = ℕ} 0 1 = cc in omega arith)
   stopped before (s ∷ ss) i r e = go (statement_type_fault table before s i) refl e (stopped (before ++ (s ∷ [])) ss (i + 1) r)
     where
-      go : (v : Verdict) → statement_type_fault table before s i ≡ v → or_else v (statements_type_fault table (before ++ (s ∷ [])) ss (i + 1)) ≡ Refused r
-          → (statements_type_fault table (before ++ (s ∷ [])) ss (i + 1) ≡ Refused r → Stopped table (before ++ (s ∷ [])) ss (i + 1) r)
+      go : (v : Verdict) → statement_type_fault table before s i ≡ v → or_else v (statements_type_fault table (before ++ (s ∷ [])) ss (i + 1)) ≡ Err r
+          → (statements_type_fault table (before ++ (s ∷ [])) ss (i + 1) ≡ Err r → Stopped table (before ++ (s ∷ [])) ss (i + 1) r)
           → Stopped table before (s ∷ ss) i r
-      go Fine f d rest = later-stopped before s ss i r f (rest d)
-      go (Refused x) f d rest = first-stopped before s ss i r (f ∙ d)
+      go (Ok tt) f d rest = later-stopped before s ss i r f (rest d)
+      go (Err x) f d rest = first-stopped before s ss i r (f ∙ d)
 
   module _ (before : List Statement) (s : Statement) (i p : ℕ) where
     -- 51: its attribute is not there

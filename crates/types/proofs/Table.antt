@@ -1,16 +1,24 @@
--- A table of types: what its check finds row by row, and that the search by halves finds an attribute's row.
-use mathlib.Core.Path.{◌≡◌, refl, ap, ◌∙◌}
+-- A table of types: what the test of its rows says, and that the search by halves finds an attribute's row.
+use mathlib.Core.Path.{◌≡◌, refl, sym, ap, ◌∙◌}
 use mathlib.Core.Logic.{⊎_elim}
 use Prim.Native.Nat.{ℕ, zero, suc, ◌+◌, ◌*◌, ◌%◌, ◌≤◌, ◌<◌}
 use mathlib.Core.List.{List, [], ◌∷◌}
-use mathlib.Core.Bool.{Bool, true, false, ◌&&◌, false≢true}
+use mathlib.Core.Bool.{Bool, true, false, false≢true}
 use native.Mathlib.Omega.{arith}
-use native.Mathlib.Nat.{eq-or-lt_of_le, le_of_suc-le-suc}
+use native.Mathlib.Nat.{eq-or-lt_of_le, zero-add}
 use borrow.Author.Tests.{ltb-true, ltb-false, lt-ltb, eq-eqb, ne_eqb}
-use lib.ListN.{length, get_or, drop, length-drop}
+use lib.ListN.{length, get_or, drop}
+use lib.Seq.{get_or-take, get_or-drop}
 use lib.Dec.{ltb}
+use Rattle.std.proofs.Common.{Some, None, nat_cmp, Less, Equal, Greater}
+use Rattle.std.specs.Simd.{first_chunks}
+use Rattle.std.specs.List.{HoldsAt, IsAllAdjacentAnswer}
+use Rattle.std.specs.List.Sorted.{IsNonDecreasingBy, IsPartitionPoint}
+use Rattle.std.specs.Ordering.{ordering_index}
+use Rattle.std.proofs.lemmas.Cmp.{ranked}
+use Rattle.std.proofs.lemmas.List.Sorted.{IsNonDecreasingBy-from_default}
+use Rattle.std.proofs.lemmas.Bool.Decides.{nat_tests}
 use Rattle.tables.proofs.Order.{both, lt-or-ge}
-use Rattle.tables.proofs.Search.{Between}
 use Rattle.types.specs.Types.{is_table, is_typed, type_of}
 use Rattle.types.specs.Record.{row_count, attribute_at, found_in}
 
@@ -28,31 +36,6 @@ table-odd t odd = go (is_table t) refl
     go : (b : Bool) → is_table t ≡ b → is_table t ≡ false
     go true e = absurd (odd (table-even t e))
     go false e = e
-
--- from any word on: a row more and the rows after it, or the last row
-words_step : (t : List ℕ) (j : ℕ) → suc (suc j) < length t
-    → is_table (drop j t) ≡ (ltb (get_or t j 0) (get_or t (suc (suc j)) 0) && is_table (drop (suc (suc j)) t))
-unfolding is_table
-words_step [] j h = absurd (omega arith)
-words_step (a ∷ t) (suc j) h = words_step t j (le_of_suc-le-suc h)
-words_step (a ∷ []) zero h = absurd (omega arith)
-words_step (a ∷ x ∷ []) zero h = absurd (omega arith)
-words_step (a ∷ x ∷ b ∷ rows) zero h = refl
-
-words_last : (l : List ℕ) → length l % 2 ≡ 0 → length l ≤ 2 → is_table l ≡ true
-unfolding is_table
-words_last [] e h = refl
-words_last (a ∷ []) e h = absurd (omega arith)
-words_last (a ∷ x ∷ []) e h = refl
-words_last (a ∷ x ∷ b ∷ rows) e h = absurd (omega arith)
-
--- a row and the next decide, and then the rows from the next on
-pub table_step : (t : List ℕ) (i : ℕ) → i + 1 < row_count t
-    → is_table (drop (2 * i) t) ≡ (ltb (attribute_at t i) (attribute_at t (i + 1)) && is_table (drop (2 * (i + 1)) t))
-table_step t i h = let e : 2 * (i + 1) ≡ suc (suc (2 * i)) = omega arith in rw e (words_step t (2 * i) (omega arith))
-
-pub table-last : (t : List ℕ) (i : ℕ) → length t % 2 ≡ 0 → row_count t ≤ i + 1 → is_table (drop (2 * i) t) ≡ true
-table-last t i e h = words_last (drop (2 * i) t) (rw (length-drop (2 * i) t) (omega arith)) (rw (length-drop (2 * i) t) (omega arith))
 
 -- the rows after the first
 table-rest : (a x : ℕ) (rows : List ℕ) → is_table (a ∷ x ∷ rows) ≡ true → is_table rows ≡ true
@@ -111,32 +94,77 @@ no_row (b ∷ x ∷ rows) a none =
     let r = no_row rows a (λ i h q. none (suc i) (omega arith) (attribute-on b x rows i ∙ q)) in
     rw n r
 
--- the search by halves for the first row whose attribute is not less
-abbrev pub Halves : List ℕ → ℕ → ℕ → ℕ → Type 0
-Halves t a low high = Between (is_table t ≡ true) (λ k. ltb (attribute_at t k) a) 0 (row_count t) low high
+-- rows whose attributes ascend are a table
+ascends-table : (t : List ℕ) → length t % 2 ≡ 0 → ((i : ℕ) → i + 1 < row_count t → attribute_at t i < attribute_at t (i + 1)) → is_table t ≡ true
+unfolding is_table
+ascends-table [] e up = refl
+ascends-table (a ∷ []) e up = absurd (omega arith)
+ascends-table (a ∷ x ∷ []) e up = refl
+ascends-table (a ∷ x ∷ b ∷ rows) e up =
+    rw (
+      lt-ltb a b (up 0 (omega arith)),
+      ascends-table (b ∷ rows) (omega arith)
+          (λ i h.
+          let e : suc i + 1 ≡ suc (i + 1) = omega arith in
+          rw (e, attribute-on a x (b ∷ rows) i, attribute-on a x (b ∷ rows) (i + 1)) at (up (suc i) (omega arith))),
+    )
 
-pub less-falls : (t : List ℕ) (a : ℕ) → is_table t ≡ true → (j k : ℕ) → 0 ≤ j → j ≤ k → k < row_count t → ltb (attribute_at t k) a ≡ true
-    → ltb (attribute_at t j) a ≡ true
-less-falls t a e j k _ l h s =
-    ⊎_elim (λ (q : j ≡ k). rw q s)
-    (λ (q : j < k). lt-ltb (attribute_at t j) a (omega (arith, attributes-ascend t e j k q h, ltb-true (attribute_at t k) a s)))
-    (eq-or-lt_of_le l)
+-- a word of a row
+word-in-row : (t : List ℕ) (n i j : ℕ) (d : List ℕ) → j < 2 → i < n → get_or (get_or (first_chunks 2 n t) i d) j 0 ≡ get_or t (2 * i + j) 0
+word-in-row t zero i j d h l = absurd (omega arith)
+word-in-row t (suc n) zero j d h l = rw (zero-add j) (get_or-take 2 t j 0 h)
+word-in-row t (suc n) (suc i) j d h l =
+    let e : 2 + (2 * i + j) ≡ 2 * suc i + j = omega arith in
+    word-in-row (drop 2 t) n i j d h (omega arith) ∙ get_or-drop 2 t (2 * i + j) 0 ∙ ap (λ (k : ℕ). get_or t k 0) e
 
-module _ (t : List ℕ) (e : is_table t ≡ true) (low : ℕ) where
-  -- the row where it ends has the attribute
-  pub found : low < row_count t → record { is_some = true; number = get_or t (2 * low + 1) 0 } ≡ found_in t (attribute_at t low)
-  found h = let r = row-types t e low h in rw (r.0, r.1)
+module _ (t : List ℕ) (rows : List (List ℕ)) (same : rows ≡ first_chunks 2 (row_count t) t) (long : length rows ≡ row_count t) where
+  attribute-in : (i : ℕ) (d : List ℕ) → i < row_count t → get_or (get_or rows i d) 0 0 ≡ attribute_at t i
+  attribute-in i d h = let e : 2 * i + 0 ≡ 2 * i = omega arith in rw same (word-in-row t (row_count t) i 0 d (omega arith) h ∙ ap (λ (k : ℕ). get_or t k 0) e)
 
-  -- or none has it
-  pub not_found : (a high : ℕ) → Halves t a low high → high ≤ low → (low < row_count t → attribute_at t low ≡ a → ⊥)
-      → record { is_some = false; number = 0 } ≡ found_in t a
-  not_found a high b l other = let r = no_row t a none in rw (r.0, r.1)
+  type-in : (i : ℕ) (d : List ℕ) → i < row_count t → get_or (get_or rows i d) 1 0 ≡ get_or t (2 * i + 1) 0
+  type-in i d h = rw same (word-in-row t (row_count t) i 1 d (omega arith) h)
+
+  -- what the test of each row and the next says
+  pub rows-tested : length t % 2 ≡ 0 → (r : Bool) → IsAllAdjacentAnswer (λ x y b. b ≡ ltb (get_or x 0 0) (get_or y 0 0)) rows r → r ≡ is_table t
+  rows-tested even true all =
+      sym (ascends-table t even
+      (λ i h. omega (arith, ltb-true _ _ (sym (all i [] (omega arith))), attribute-in i [] (omega arith), attribute-in (i + 1) [] h)))
+  rows-tested even false some = go (is_table t) refl
     where
-      none : (i : ℕ) → i < row_count t → attribute_at t i ≡ a → ⊥
-      none i h q =
-          ⊎_elim (λ (below : i < low). omega (arith, ltb-true (attribute_at t i) a (b.passed e i (omega arith) below)))
-          (λ (above : low ≤ i).
-          ⊎_elim (λ (same : low ≡ i). other (omega arith) (rw same q))
-          (λ (past : low < i). omega (arith, ltb-false (attribute_at t low) a (b.stopped e low l (omega arith)), attributes-ascend t e low i past h))
-          (eq-or-lt_of_le above))
-          (lt-or-ge i low)
+      go : (b : Bool) → is_table t ≡ b → false ≡ is_table t
+      go false e = sym e
+      go true e =
+          let k = some.0 in
+          let h : k + 1 < row_count t = omega (arith, some.1) in
+          absurd
+          (omega (arith, ltb-false _ _ (sym (some.2 [])), attribute-in k [] (omega arith), attribute-in (k + 1) [] h, attributes-ascend t e k (k + 1) (omega arith) h))
+
+  module _ (e : is_table t ≡ true) (a : ℕ) where
+    -- the comparisons rise, as the search by halves asks
+    rises : IsNonDecreasingBy (λ row. ordering_index (nat_cmp (get_or row 0 0) a)) rows
+    rises = IsNonDecreasingBy-from_default (λ row. ordering_index (nat_cmp (get_or row 0 0) a)) rows [] (λ i j l h.
+        let up : attribute_at t i ≤ attribute_at t j =
+        ⊎_elim (λ (q : i ≡ j). rw q (omega arith)) (λ (q : i < j). omega (arith, attributes-ascend t e i j q (omega arith))) (eq-or-lt_of_le l) in
+        rw (attribute-in i [] (omega arith), attribute-in j [] (omega arith)) (grind (arith, nat_tests)))
+
+    -- the row that the search finds has the attribute
+    pub found : (i : ℕ) → i < length rows → HoldsAt (λ row. nat_cmp (get_or row 0 0) a ≡ Equal) rows i → Some (get_or (get_or rows i []) 1 0) ≡ found_in t a
+    found i h equal =
+        let l : i < row_count t = omega arith in
+        let q : attribute_at t i ≡ a = sym (attribute-in i [] l) ∙ ranked _ a _ (sym (equal [])) in
+        let r = row-types t e i l in
+        rw (← q, type-in i [] l, r.0, r.1)
+
+    -- or none has it
+    pub not_found : (i : ℕ)
+        → (IsNonDecreasingBy (λ row. ordering_index (nat_cmp (get_or row 0 0) a)) rows
+        → IsPartitionPoint (λ row. nat_cmp (get_or row 0 0) a ≡ Less) (λ row. nat_cmp (get_or row 0 0) a ≡ Greater) rows i)
+        → None ≡ found_in t a
+    not_found i parted = let r = no_row t a none in rw r.0
+      where
+        none : (k : ℕ) → k < row_count t → attribute_at t k ≡ a → ⊥
+        none k h q =
+            ⊎_elim
+            (λ (below : k < i). let l = ranked _ a _ (sym ((parted rises).0 k [] (omega arith) below)) in omega (arith, l, attribute-in k [] h))
+            (λ (above : i ≤ k). let l = ranked _ a _ (sym ((parted rises).1 k [] above (omega arith))) in omega (arith, l, attribute-in k [] h))
+            (lt-or-ge k i)

@@ -7,7 +7,7 @@ use native.Mathlib.Omega.{arith}
 use native.Mathlib.Nat.{zero-add}
 use borrow.Author.Tests.{ne_eqb, not-false}
 use lib.ListN.{length, get_or}
-use Rattle.refusal.specs.declared.Verdict.TheVariants.{Fine}
+use Rattle.std.specs.Prelude.{Ok}
 use Rattle.refusal.proofs.Fine.{or-fine}
 use Rattle.refusal.proofs.First.{each_number}
 use Rattle.query.specs.declared.QueryValue.{QueryValue}
@@ -37,7 +37,7 @@ unnamed-past n (s ∷ ss) low v l =
     let e = ne_eqb s.entity.0 v (λ q. omega (arith, b.entity_below)) in
     simp (e, value-past n v l s.value b.value_below) (unnamed-past n ss (λ i h. low (suc i) (omega arith)) v l)
 
-module _ (q : Query) (fine : plan_fault q ≡ Fine) where
+module _ (q : Query) (fine : plan_fault q ≡ Ok tt) where
   -- what planning's own checks leave
   pub plannable : Plannable q.variable_count q.where_statements.count q.where_statements.items
   unfolding plan_fault

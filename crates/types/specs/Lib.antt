@@ -1,3 +1,4 @@
+pub mod Answered
 pub mod Types
 pub mod Record
 pub mod Meaning

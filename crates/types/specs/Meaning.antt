@@ -2,7 +2,7 @@
 use Rattle.std.specs.Prelude.{◌≡◌, ℕ, ◌+◌, ◌≤◌, ◌<◌, List, [], ◌∷◌, true, false, length, get_or, take, replicate}
 use Rattle.capacity.specs.Capacity.{max_slots}
 use Rattle.refusal.specs.declared.Refusal.{Refusal}
-use Rattle.refusal.specs.declared.Verdict.TheVariants.{Fine, Refused}
+use Rattle.std.specs.Prelude.{Ok, Err}
 use Rattle.refusal.specs.Verdict.{refused}
 use Rattle.query.specs.declared.QueryValue.{QueryValue}
 use Rattle.query.specs.declared.QueryValue.TheVariants.{Const, Var as Variable}
@@ -10,7 +10,7 @@ use Rattle.query.specs.declared.Statement.{Statement}
 use Rattle.query.specs.declared.Query.{Query}
 use Rattle.query.specs.Query.{statements_of, zero_statement}
 use Rattle.planner.specs.Refusals.{plan_fault}
-use Rattle.types.specs.declared.Inferred.{Inferred}
+use Rattle.types.specs.Answered.{Inferred}
 use Rattle.types.specs.Types.{is_table, is_typed, type_of, reference}
 
 -- a type for each variable
@@ -38,7 +38,7 @@ AllTyped table (s ∷ ss) = (is_typed table s.attribute.0 ≡ true) × AllTyped 
 
 -- a query that planning takes, over a table that is one, whose attributes are all there and which some types fit
 pub record CanBeTyped (q : Query) (table : List ℕ) : Type 0 where
-  pub plannable : plan_fault q ≡ Fine
+  pub plannable : plan_fault q ≡ Ok tt
   pub ascends : is_table table ≡ true
   pub attributes_there : AllTyped table (statements_of q)
   pub types : Assignment
@@ -70,9 +70,9 @@ pub record Clash (q : Query) (table : List ℕ) (i : ℕ) : Type 0 where
 
 -- what `infer_types` must answer: exactly the queries that can be typed are answered, with their types; a refusal has its reason
 pub record TypesDemanded (q : Query) (table : List ℕ) (r : Inferred) : Type 0 where
-  pub answered : CanBeTyped q table → r.verdict ≡ Fine
-  pub typed : r.verdict ≡ Fine → CanBeTyped q table
-  pub well_typed : r.verdict ≡ Fine → WellTyped q table r.types
+  pub answered : CanBeTyped q table → r.verdict ≡ Ok tt
+  pub typed : r.verdict ≡ Ok tt → CanBeTyped q table
+  pub well_typed : r.verdict ≡ Ok tt → WellTyped q table r.types
   pub missing : (i : ℕ) → r.verdict ≡ refused 51 i → Missing q table i
   pub clash : (i : ℕ) → r.verdict ≡ refused 52 i → Clash q table i
-  pub zeros_refused : (x : Refusal) → r.verdict ≡ Refused x → r.types ≡ replicate max_slots 0
+  pub zeros_refused : (x : Refusal) → r.verdict ≡ Err x → r.types ≡ replicate max_slots 0

@@ -1,8 +1,8 @@
 -- 02, Ticket 1: the type of every variable (003, `infer_types`).
 use Rattle.std.specs.Prelude.{ℕ, ◌+◌, List, [], ◌∷◌, ◌++◌, Bool, true, false, not, ◌&&◌, ◌||◌, cond, replicate, ltb, eqb}
 use Rattle.capacity.specs.Capacity.{max_slots}
-use Rattle.refusal.specs.declared.Verdict.{Verdict}
-use Rattle.refusal.specs.declared.Verdict.TheVariants.{Fine}
+use Rattle.refusal.specs.Verdict.{Verdict}
+use Rattle.std.specs.Prelude.{Ok}
 use Rattle.refusal.specs.Verdict.{refuse_if, or_else, unless}
 use Rattle.lists.specs.Padded.{padded}
 use Rattle.lists.specs.Tabled.{tabled}
@@ -12,7 +12,7 @@ use Rattle.query.specs.declared.Statement.{Statement}
 use Rattle.query.specs.declared.Query.{Query}
 use Rattle.query.specs.Query.{statements_of, is_variable}
 use Rattle.planner.specs.Refusals.{plan_fault}
-use Rattle.types.specs.declared.Inferred.{Inferred}
+use Rattle.types.specs.Answered.{Inferred}
 
 -- a table of (attribute, type): of even length, and strictly ascending by attribute
 unfoldable pub is_table : List ℕ → Bool
@@ -63,7 +63,7 @@ statement_type_fault table before s i =
 
 -- statement by statement, from number i on
 unfoldable pub statements_type_fault : List ℕ → List Statement → List Statement → ℕ → Verdict
-statements_type_fault table before [] i = Fine
+statements_type_fault table before [] i = Ok tt
 statements_type_fault table before (s ∷ ss) i = or_else (statement_type_fault table before s i) (statements_type_fault table (before ++ (s ∷ [])) ss (i + 1))
 
 -- after planning's own checks 50, table of odd length or not ascending; then statement by statement
@@ -77,4 +77,4 @@ not_inferred v = record { verdict = v; types = replicate max_slots 0 }
 unfoldable pub inferred_of : Query → List ℕ → Inferred
 inferred_of q table =
     unless (types_fault q table) not_inferred
-    (record { verdict = Fine; types = padded 0 max_slots (tabled (type_given table (statements_of q)) q.variable_count) })
+    (record { verdict = Ok tt; types = padded 0 max_slots (tabled (type_given table (statements_of q)) q.variable_count) })

@@ -1,4 +1,5 @@
 -- 01, "Tables and rows": what a plan visits over three tables, and the list of rows that it yields.
+use Rattle.tables.specs.declared.Tables.{Tables as LentTables}
 use Rattle.std.specs.Prelude.{ℕ, ◌+◌, List, [], ◌∷◌, ◌++◌, map, get_or, set, take}
 use Rattle.datom.specs.Fact.{Fact, aevt_row, avet_row, eavt_row}
 use Rattle.tables.specs.Rows.{row, matching, fact_of}
@@ -24,6 +25,10 @@ pub record Tables : Type 0 where
 
 abbrev pub tables_of : List ℕ → List ℕ → List ℕ → Tables
 tables_of a b c = record { aevt = a; avet = b; eavt = c }
+
+-- those that are lent
+abbrev pub lent : LentTables → Tables
+lent t = tables_of t.aevt.now t.avet.now t.eavt.now
 
 abbrev pub table_of : Tables → Index → List ℕ
 table_of ts Aevt = ts.aevt

@@ -15,7 +15,7 @@ pub fn read_full<R: Read>(input: &mut R, buffer: &mut [u8]) -> io::Result<usize>
     ensures end { IfOk result (λ n. n < length buffer.new → IsAtEnd (R.remaining input.new)) }
     ensures err { OnErr result ((n : ℕ) × (n ≤ length buffer.new) × Consumes (R.remaining input.old) (R.remaining input.new) (take n buffer.new)) }
 {
-    let mut done: usize = 0;
+    let mut done = 0;
     while done < buffer.len() {
         let more = input.read(&mut buffer[done..])?;
         if more == 0 {

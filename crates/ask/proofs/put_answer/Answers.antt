@@ -2,5 +2,5 @@
 use Rattle.ask_answer.proofs.Handed.{fewer}
 use Rattle.ask.proofs.put_answer.Goals as goal
 
-pub loop-rows-smaller : goal.loop-rows-smaller
-loop-rows-smaller c = fewer c.go_on-part.ensures c.if-part.false
+pub loop-following-smaller : goal.loop-following-smaller
+loop-following-smaller c = rw c.in-Some.is (fewer c.in-Ok.ensures)

@@ -4,8 +4,8 @@ use Rattle.ask_answer.specs.Capacity.{text_bytes, window_words}
 use Rattle.ask_answer.specs.Run.{to_come}
 use Rattle.ask.proofs.put_answer.Given as goal
 
-abbrev pub invariant-loop-rows : goal.invariant-loop-rows
-invariant-loop-rows l = (length l.out ≡ text_bytes) × (length l.rows ≡ window_words) × (l.part.length ≤ length l.out)
+abbrev pub invariant-loop-following : goal.invariant-loop-following
+invariant-loop-following l = (length l.out ≡ text_bytes) × (length l.rows ≡ window_words) × (l.part.length ≤ length l.out)
 
-abbrev pub decreases-loop-rows : goal.decreases-loop-rows
-decreases-loop-rows l = to_come l.part
+abbrev pub decreases-loop-following : goal.decreases-loop-following
+decreases-loop-following l = to_come l.part.following

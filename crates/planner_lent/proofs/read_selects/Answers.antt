@@ -1,12 +1,14 @@
--- `read_selects` meets its contract: a turn reads one more, and at the end all are read.
-use mathlib.Core.Path.{◌∙◌}
-use native.Mathlib.Omega.{arith}
-use Rattle.planner_lent.proofs.Read.{next-select, all-selects}
+-- What is lent, over an array of zeros, is what is read.
+use mathlib.Core.Path.{ap, ◌∙◌}
+use lib.ListN.{length}
+use mathlib.Core.List.{List}
+use Rattle.capacity.specs.Capacity.{max_selects}
+use Rattle.query.specs.declared.Var.{Var}
+use Rattle.query.specs.Query.{zero_var}
+use Rattle.planner_lent.proofs.Read.{front_padded}
 use Rattle.planner_lent.proofs.read_selects.Goals as goal
 
 pub returns : goal.returns
-returns c = c.loop-i.invariant.1 ∙ all-selects c.args.lent.now c.loop-i.i (omega arith)
-
-pub loop-i-preserved : goal.loop-i-preserved
-loop-i-preserved c =
-    (omega arith, rw c.loop-i.invariant.1 at c.push_select-selects.ensures ∙ next-select c.args.lent.now c.loop-i.i c.loop-i-test.true)
+returns c =
+    let lent = c.args.lent.now in
+    ap (λ (l : List Var). record { items = l; count = length lent }) (c.put_front.ensures ∙ front_padded zero_var max_selects lent)

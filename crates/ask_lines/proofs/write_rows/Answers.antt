@@ -1,0 +1,9 @@
+use Rattle.ask_lines.proofs.Rows.{one_more, all-written}
+use Rattle.ask_lines.proofs.write_rows.Goals as goal
+
+pub loop-word-preserved : goal.loop-word-preserved
+loop-word-preserved c =
+    let l = c.loop-word in rw c.left_after-left.ensures (one_more l.invariant c.loop-word-test.true c.write_word.ensures)
+
+pub returns : goal.returns
+returns c = all-written c.loop-word.invariant c.loop-word-test.false

@@ -1,0 +1,7 @@
+-- Before turn i the first i are written.
+use Rattle.std.proofs.Common.{◌≡◌, take}
+use Rattle.eval.specs.Evaluation.{values_of}
+use Rattle.eval.proofs.setup.write_slots.Given as goal
+
+abbrev pub invariant-loop-i : goal.invariant-loop-i
+invariant-loop-i l = take l.i l.values ≡ values_of (take l.i l.slots)
