@@ -63,11 +63,10 @@ _Static_assert(LOADER_MAX_IMAGE == (COUNTS_BITS + (MARK_BITS + WORD_BITS) * MAX_
 #define FIRST(of, field) AT(0, of, field)
 
 IS(ANSWER_WORDS, sizeof(struct loader_answer));
-/* The code writes an answer's words as one array, in this order. */
-FIRST(answer, number);
-AT(1, answer, place);
-AT(2, answer, first);
-AT(3, answer, second);
+AT(ANSWER_NUMBER, answer, number);
+AT(ANSWER_PLACE, answer, place);
+AT(ANSWER_FIRST, answer, first);
+AT(ANSWER_SECOND, answer, second);
 
 IS(STATEMENT_WORDS, sizeof(struct loader_statement));
 FIRST(statement, entity);

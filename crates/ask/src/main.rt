@@ -11,9 +11,10 @@ use whole_input::read_full;
 
 // What is written stands in the buffer that the text was read into.
 fn main(rt: HostRuntime) -> io::Result<()> {
+    // Both before the text is read: made after it, the second would be zeroed twice.
     let mut text = text_buffer();
-    let n = read_full(&mut rt.stdin(), &mut text)?;
     let mut words = word_buffer();
+    let n = read_full(&mut rt.stdin(), &mut text)?;
     let count = ask_answer::read_question(&text[..n], &mut words);
     put_answer(rt.stdout(), &words[..count], &mut text)
 }

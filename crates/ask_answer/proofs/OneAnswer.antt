@@ -4,7 +4,7 @@ use mathlib.Core.List.{List}
 use Prim.Native.Nat.{ℕ}
 use Rattle.refusal.proofs.OneAnswer.{one_answer}
 use Rattle.std.specs.Prelude.{Result}
-use Rattle.refusal.specs.declared.Refusal.{Refusal}
+use Rattle.refusal.specs.Verdict.{Refusal}
 use Rattle.ask_answer.specs.declared.Following.{Following}
 use Rattle.ask_answer.specs.declared.Part.{Part}
 use Rattle.ask_answer.specs.Parts.{Reads, Begins, GoesOn}

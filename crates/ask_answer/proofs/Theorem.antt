@@ -8,7 +8,7 @@ use lib.ListN.{length, take, drop}
 use lib.Seq.{sets, sets-eq, length-sets, take_at}
 use Rattle.capacity.specs.Capacity.{max_selects}
 use Rattle.std.specs.Prelude.{Option, None, Some, Result, Ok, Err}
-use Rattle.refusal.specs.declared.Refusal.{Refusal}
+use Rattle.refusal.specs.Verdict.{Refusal}
 use Rattle.plan.specs.declared.Plan.{Plan}
 use Rattle.text_pieces.specs.Written.{largest, after}
 use Rattle.visits.specs.Visits.{Tables}

@@ -1,8 +1,7 @@
 -- The answer is handed over in parts: what the functions of this crate promise of each.
 use Rattle.std.specs.Prelude.{◌≡◌, ℕ, ◌+◌, ◌*◌, ◌≤◌, cond, Option, Some, None, Result, Ok, Err, List, [], length, ltb}
 use Rattle.std.specs.Option.{option_map}
-use Rattle.refusal.specs.declared.Refusal.{Refusal}
-use Rattle.refusal.specs.Verdict.{answer}
+use Rattle.refusal.specs.Verdict.{Refusal, answer}
 use Rattle.std.proofs.lemmas.List.Edits.{sets}
 use Rattle.ask_numbers.specs.Words.{said, words_after}
 use Rattle.plan.specs.declared.Plan.{Plan}

@@ -1,6 +1,6 @@
 -- A run of the program, as the contracts of its parts describe it, and the bytes that it hands over.
 use Rattle.std.specs.Prelude.{◌≡◌, ℕ, ◌+◌, Option, None, Some, Ok, Err, List, [], ◌++◌, length, take}
-use Rattle.refusal.specs.declared.Refusal.{Refusal}
+use Rattle.refusal.specs.Verdict.{Refusal}
 use Rattle.ask_answer.specs.declared.Following.{Following}
 use Rattle.ask_answer.specs.declared.Part.{Part}
 use Rattle.ask_answer.specs.Capacity.{text_bytes, word_count, window_words}

@@ -7,6 +7,7 @@ use native.Mathlib.Omega.{arith}
 use lib.ListN.{length, drop, get_or, drop_of_length-le}
 use lib.Seq.{drop-cons}
 use Rattle.text_pieces.specs.declared.Pen.{Pen}
+use Rattle.text_pieces.specs.Written.{largest}
 use Rattle.text_pieces.specs.Wrote.{Wrote}
 use Rattle.text_pieces.proofs.Wrote.{wrote_none, wrote_then}
 use Rattle.ask_lines.specs.Lines.{word_text, left_after, row_lines}
@@ -19,8 +20,8 @@ pub record SoFar (words : List ℕ) (width : ℕ) (pen pen' : Pen) (left i : ℕ
   pub rest : row_lines width width words ≡ text ++ row_lines width left (drop i words)
 
 module _ {words : List ℕ} {width : ℕ} {pen : Pen} where
-  pub none_yet : SoFar words width pen pen width 0
-  none_yet = record { text = []; within = omega arith; is_written = wrote_none; rest = refl }
+  pub none_yet : pen.at ≤ largest → length pen.out.now ≤ largest → SoFar words width pen pen width 0
+  none_yet h k = record { text = []; within = omega arith; is_written = wrote_none h k; rest = refl }
 
   module _ {pen' : Pen} {left i : ℕ} (f : SoFar words width pen pen' left i) where
     pub one_more : {b : Pen} → i < length words → Wrote (word_text (get_or words i 0) left) pen' b

@@ -1,11 +1,10 @@
 // What the program writes besides the plan text (docs/LAYOUT.md, "What it writes"), over a lent buffer by a pen.
 #![tactic(auto)]
 
-ghost use Rattle.std.specs.Prelude.{◌≡◌, Err};
+ghost use Rattle.std.specs.Prelude.{◌≡◌};
 ghost use Rattle.text_pieces.specs.Wrote.{Wrote};
-ghost use Rattle.ask_lines.specs.Lines.{outside_line, refusal_text, cost_line, word_text, left_after, row_lines};
+ghost use Rattle.ask_lines.specs.Lines.{outside_line, refusal_line, cost_line, word_text, left_after, row_lines};
 
-use refusal::Refusal;
 use text_pieces::Pen;
 
 // Input outside the layout.
@@ -16,13 +15,13 @@ pub fn write_outside(pen: &mut Pen)
 }
 
 // A refusal, alone.
-pub fn write_refusal(refusal: Refusal, pen: &mut Pen)
-    ensures { Wrote (refusal_text (Err refusal)) pen.old pen.new }
+pub fn write_refusal(number: u8, place: usize, pen: &mut Pen)
+    ensures { Wrote (refusal_line number place) pen.old pen.new }
 {
     pen.write(b"refused ");
-    pen.write_decimal(u64::from(refusal.rule.number()));
+    pen.write_decimal(u64::from(number));
     pen.write(b" at ");
-    pen.write_decimal(refusal.place as u64);
+    pen.write_decimal(place as u64);
     pen.write(b"\n");
 }
 
@@ -39,6 +38,8 @@ pub fn write_cost(cost: u64, pen: &mut Pen)
 pub fn write_rows(words: &[u64], width: usize, pen: &mut Pen)
     ensures { Wrote (row_lines width width words.now) pen.old pen.new }
 {
+    // Read here, so that the proof knows it as a number of 64 bits.
+    let _stands = pen.at;
     let mut left = width;
     for word in words {
         write_word(*word, left, pen);

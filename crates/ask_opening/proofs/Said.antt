@@ -8,8 +8,7 @@ use borrow.Author.Tests.{leb-true, le-ltb}
 use lib.ListN.{length, take, drop, get_or, replicate, length-append, length-replicate}
 use lib.Seq.{sets-eq, take-append_seam}
 use lib.Dec.{leb}
-use Rattle.refusal.specs.declared.Refusal.{Refusal}
-use Rattle.refusal.specs.Verdict.{Verdict, answer}
+use Rattle.refusal.specs.Verdict.{Refusal, Verdict, answer}
 use Rattle.std.specs.Prelude.{Result, Ok, Err, None}
 use Rattle.refusal.proofs.Fine.{or-fine}
 use Rattle.query.specs.declared.Query.{Query}

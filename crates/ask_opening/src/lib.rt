@@ -200,7 +200,7 @@ fn write_refusal(refusal: Refusal, out: &mut [u8]) -> usize
     ensures { Written (refusal_text (Err refusal)) 0 out.old result out.new }
 {
     let mut pen = Pen { out, at: 0 };
-    ask_lines::write_refusal(refusal, &mut pen);
+    ask_lines::write_refusal(refusal.rule.number(), refusal.place, &mut pen);
     pen.at
 }
 

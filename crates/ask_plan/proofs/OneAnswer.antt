@@ -5,7 +5,7 @@ use Prim.Native.Nat.{ℕ}
 use Rattle.query.specs.declared.Query.{Query}
 use Rattle.ask_plan.specs.Answer.{answer_with}
 use Rattle.std.specs.Prelude.{Result}
-use Rattle.refusal.specs.declared.Refusal.{Refusal}
+use Rattle.refusal.specs.Verdict.{Refusal}
 use Rattle.ask_plan.specs.declared.Chosen.{Chosen}
 use Rattle.ask_plan.specs.Answer.{said_answer}
 

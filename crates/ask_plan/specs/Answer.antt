@@ -1,8 +1,7 @@
 -- docs/LAYOUT.md: what is planned for a question. The first refusal is that of the types where the task has them checked, then that of
 -- planning or the search, then that of the cost.
 use Rattle.std.specs.Prelude.{Result}
-use Rattle.refusal.specs.declared.Refusal.{Refusal}
-use Rattle.refusal.specs.Verdict.{answer}
+use Rattle.refusal.specs.Verdict.{Refusal, answer}
 use Rattle.ask_plan.specs.declared.Chosen.{Chosen}
 use Rattle.std.specs.Prelude.{ℕ, Bool, cond, ◌||◌, List, get_or, eqb}
 use Rattle.refusal.specs.Verdict.{Verdict}

@@ -6,7 +6,7 @@ use Rattle.refusal.proofs.OneAnswer.{one_answer}
 use Rattle.plan.specs.declared.Plan.{Plan}
 use Rattle.visits.specs.Visits.{Tables}
 use Rattle.std.specs.Prelude.{Result, Ok, Err}
-use Rattle.refusal.specs.declared.Refusal.{Refusal}
+use Rattle.refusal.specs.Verdict.{Refusal}
 use Rattle.ask_rows.specs.declared.Window.{Window as Said}
 use Rattle.ask_rows.specs.Answered.{Window}
 use Rattle.ask_rows.specs.Windows.{ShowsWindow, said_window}

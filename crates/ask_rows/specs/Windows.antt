@@ -1,11 +1,10 @@
 -- docs/LAYOUT.md, "What it writes": the rows, window by window, and whether more follow.
 use Rattle.std.specs.Prelude.{Result, Err}
-use Rattle.refusal.specs.declared.Refusal.{Refusal}
 use Rattle.eval.specs.declared.rows.Shown.{Shown}
 use Rattle.ask_rows.specs.declared.Window.{Window as Said}
 use Rattle.std.specs.Prelude.{◌≡◌, ℕ, zero, suc, ◌+◌, ◌-◌, ◌*◌, ◌/◌, ◌≤◌, min, Bool, true, false, cond, not, ◌||◌, List, [], ◌++◌, length, take, drop, leb, ltb, eqb}
 use Rattle.std.proofs.lemmas.List.Edits.{sets}
-use Rattle.refusal.specs.Verdict.{Verdict}
+use Rattle.refusal.specs.Verdict.{Refusal, Verdict}
 use Rattle.std.specs.Prelude.{Ok}
 use Rattle.refusal.specs.Verdict.{unless}
 use Rattle.plan.specs.declared.Plan.{Plan}

@@ -9,8 +9,7 @@ use native.Mathlib.Omega.{arith}
 use borrow.Author.Tests.{lt-leb, le-leb}
 use lib.Dec.{leb}
 use lib.ListN.{length, length-append}
-use Rattle.refusal.specs.declared.Refusal.{Refusal}
-use Rattle.refusal.specs.Verdict.{refused, refuse_if}
+use Rattle.refusal.specs.Verdict.{Refusal, refused, refuse_if}
 use Rattle.std.specs.Prelude.{Ok, Err, Bool, true, false}
 use Rattle.plan.specs.declared.Scan.{Scan}
 use Rattle.plan.specs.declared.Index.{Index}

@@ -3,13 +3,12 @@ use mathlib.Core.Path.{◌≡◌}
 use mathlib.Core.List.{List}
 use Prim.Native.Nat.{ℕ}
 use lib.ListN.{length}
-use Rattle.refusal.specs.Verdict.{Verdict}
+use Rattle.refusal.specs.Verdict.{Refusal, Verdict}
 use Rattle.refusal.proofs.OneAnswer.{one_answer}
 use Rattle.plan.specs.declared.Plan.{Plan}
 use Rattle.visits.specs.Visits.{Tables}
 use Rattle.eval.specs.Evaluation.{said_rows, evaluation_fault, evaluate_of, buffer_after}
 use Rattle.std.specs.Prelude.{Result}
-use Rattle.refusal.specs.declared.Refusal.{Refusal}
 use Rattle.eval.specs.declared.rows.Shown.{Shown}
 
 -- `evaluate`

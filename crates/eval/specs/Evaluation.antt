@@ -1,8 +1,7 @@
 -- 01, "Tables and rows" and "Refusal numbers": evaluation is the plan check, 28 where there are no scans, the check of the tables, and then
 -- the window of the rows.
 use Rattle.std.specs.Prelude.{Result}
-use Rattle.refusal.specs.declared.Refusal.{Refusal}
-use Rattle.refusal.specs.Verdict.{answer}
+use Rattle.refusal.specs.Verdict.{Refusal, answer}
 use Rattle.eval.specs.declared.rows.Shown.{Shown}
 use Rattle.std.specs.Prelude.{◌≡◌, Bool, false, ℕ, ◌*◌, ◌<◌, ◌≤◌, List, map, length, take, eqb}
 use Rattle.refusal.specs.Verdict.{Verdict}

@@ -1,8 +1,7 @@
 -- Ticket 2: reading an image in order; the first fault met is refused, its place the byte where the field begins.
 use Rattle.std.specs.Prelude.{ℕ, zero, suc, ◌+◌, ◌/◌, List, [], ◌∷◌, Bool, true, not, ◌&&◌, cond, length, take, drop, ltb, eqb}
 use Rattle.capacity.specs.Capacity.{max_scans, max_slots, max_selects}
-use Rattle.refusal.specs.declared.Refusal.{Refusal}
-use Rattle.refusal.specs.Verdict.{Verdict}
+use Rattle.refusal.specs.Verdict.{Refusal, Verdict}
 use Rattle.std.specs.Prelude.{Ok, Err}
 use Rattle.refusal.specs.Verdict.{refuse_if, or_else, rule_of}
 use Rattle.lists.specs.Padded.{padded}

@@ -8,7 +8,7 @@ use borrow.Author.Tests.{ltb-false}
 use lib.ListN.{length, take}
 use lib.Dec.{ltb}
 use Rattle.std.specs.Prelude.{Result, Ok, Err}
-use Rattle.refusal.specs.declared.Refusal.{Refusal}
+use Rattle.refusal.specs.Verdict.{Refusal}
 use Rattle.bits.specs.Bits.{number}
 use Rattle.image.specs.Read.{Parsed, met, and_then, ran_out}
 use Rattle.image.proofs.Places.{field_at}

@@ -8,7 +8,7 @@ use native.Mathlib.Omega.{arith}
 use lib.ListN.{length, set, take, replicate, length-set, length-replicate}
 use lib.Seq.{take-suc-set, length-take-le}
 use Rattle.std.specs.Prelude.{Ok, Err}
-use Rattle.refusal.specs.declared.Refusal.{Refusal}
+use Rattle.refusal.specs.Verdict.{Refusal}
 use Rattle.lists.specs.Padded.{padded}
 use Rattle.lists.proofs.Padded.{padded-none, padded-more}
 use Rattle.image.specs.Read.{Parsed, met, stopped, and_then, many}

@@ -5,8 +5,7 @@ use mathlib.Core.List.{List}
 use Rattle.refusal.proofs.OneAnswer.{one_answer}
 use Rattle.image.specs.Read.{plan_read_of}
 use Rattle.std.specs.Prelude.{Result}
-use Rattle.refusal.specs.declared.Refusal.{Refusal}
-use Rattle.refusal.specs.Verdict.{answer}
+use Rattle.refusal.specs.Verdict.{Refusal, answer}
 use Rattle.plan.specs.declared.Plan.{Plan}
 
 pub read-image-one : (bytes : List ℕ) (r r' : Result Plan Refusal) → r ≡ answer (plan_read_of bytes).verdict (plan_read_of bytes).plan → r' ≡ answer (plan_read_of bytes).verdict (plan_read_of bytes).plan → r ≡ r'

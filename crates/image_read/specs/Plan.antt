@@ -1,6 +1,6 @@
 -- The fields of a plan in two parts: the three counts, and what stands behind them.
 use Rattle.std.specs.Prelude.{ℕ, List, Result, Ok, Err}
-use Rattle.refusal.specs.declared.Refusal.{Refusal}
+use Rattle.refusal.specs.Verdict.{Refusal}
 use Rattle.plan.specs.declared.Plan.{Plan}
 use Rattle.plan.specs.Plan.{counts_fault, Counted}
 use Rattle.image.specs.Read.{Parsed, met, and_then, unless_fault, field, slot, scan, select, many, plan_read}

@@ -1,6 +1,6 @@
 -- What the private functions of reading answer, against the definition of an image: where a field begins, and what follows it.
 use Rattle.std.specs.Prelude.{◌≡◌, ℕ, ◌+◌, ◌*◌, ◌^◌, ◌<◌, ◌≤◌, List, length, take, drop, Result, Ok, Err}
-use Rattle.refusal.specs.declared.Refusal.{Refusal}
+use Rattle.refusal.specs.Verdict.{Refusal}
 use Rattle.lists.specs.Padded.{padded}
 use Rattle.bits.specs.Bits.{unpacked}
 use Rattle.image.specs.Read.{Parsed, met, stopped, field, many}

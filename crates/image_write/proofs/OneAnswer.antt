@@ -7,8 +7,7 @@ use Rattle.refusal.proofs.OneAnswer.{one_answer}
 use Rattle.plan.specs.declared.Plan.{Plan}
 use Rattle.image.specs.Image.{stored_of, image_after}
 use Rattle.std.specs.Prelude.{Result}
-use Rattle.refusal.specs.declared.Refusal.{Refusal}
-use Rattle.refusal.specs.Verdict.{answer}
+use Rattle.refusal.specs.Verdict.{Refusal, answer}
 
 -- `write_image`, the buffer included
 pub write-image-one : (p : Plan) (buffer : List ℕ) (r r' : Result ℕ Refusal) (b b' : List ℕ) → r ≡ answer (stored_of p (length buffer)).verdict (stored_of p (length buffer)).length → r' ≡ answer (stored_of p (length buffer)).verdict (stored_of p (length buffer)).length

@@ -6,9 +6,8 @@ use native.Mathlib.Omega.{arith}
 use borrow.Author.Tests.{lt-ltb, le-ltb}
 use lib.ListN.{length, drop}
 use lib.Seq.{length-take-le}
-use Rattle.refusal.specs.declared.Refusal.{Refusal}
 use Rattle.std.specs.Prelude.{Result, Ok, Err}
-use Rattle.refusal.specs.Verdict.{answer, rule_of}
+use Rattle.refusal.specs.Verdict.{Refusal, answer, rule_of}
 use Rattle.refusal.proofs.Fine.{or-fine}
 use Rattle.lists.specs.Laid.{laid}
 use Rattle.plan.specs.declared.Plan.{Plan}

@@ -3,7 +3,7 @@ use Rattle.std.specs.Prelude.{◌≡◌, ℕ, false, List, [], Err, Some, None, 
 use mathlib.Core.Path.{refl}
 use native.Mathlib.Omega.{arith}
 use mathlib.Core.List.{◌∷◌}
-use Rattle.refusal.specs.declared.Refusal.{Refusal}
+use Rattle.refusal.specs.Verdict.{Refusal}
 use Rattle.plan.specs.declared.Plan.{Plan}
 use Rattle.query.specs.declared.Query.{Query}
 use Rattle.permutation.specs.declared.Permutations.{Permutations}

@@ -6,7 +6,7 @@
 // nothing else.
 #![tactic(auto)]
 
-ghost use Rattle.std.specs.Prelude.{◌≡◌, length};
+ghost use Rattle.std.specs.Prelude.{◌≡◌, [], ◌∷◌, length};
 ghost use Rattle.visits.specs.Visits.{tables_of};
 ghost use Rattle.cost.specs.Cost.{cost_of};
 ghost use Rattle.plan_check.specs.Check.{check_of};
@@ -30,7 +30,15 @@ use permutation::{Permutations, Swap};
 use refusal::Refusal;
 use tables::Tables;
 
-// An answer's words: the number, the place, and two more.
+// Where each part of an answer stands, and how many words it has.
+const ANSWER_NUMBER: usize = 0;
+
+const ANSWER_PLACE: usize = 1;
+
+const ANSWER_FIRST: usize = 2;
+
+const ANSWER_SECOND: usize = 3;
+
 pub const ANSWER_WORDS: usize = 4;
 
 // A swap's two positions.
@@ -326,7 +334,7 @@ fn accept(first: u64, second: u64, answer: &mut [u64; ANSWER_WORDS]) -> u64
     ensures value { result ≡ 0 }
     ensures answer_after { answer.new ≡ answer_of (Ok tt) first second }
 {
-    *answer = [0, 0, first, second];
+    write_answer(0, 0, first, second, answer);
     0
 }
 
@@ -336,6 +344,16 @@ fn refuse(refusal: Refusal, answer: &mut [u64; ANSWER_WORDS]) -> u64
     ensures answer_after { answer.new ≡ answer_of (Err refusal) 0 0 }
 {
     let number = u64::from(refusal.rule.number());
-    *answer = [number, refusal.place as u64, 0, 0];
+    write_answer(number, refusal.place as u64, 0, 0, answer);
     number
+}
+
+// The words of an answer.
+fn write_answer(number: u64, place: u64, first: u64, second: u64, answer: &mut [u64; ANSWER_WORDS])
+    ensures { answer.new ≡ number ∷ place ∷ first ∷ second ∷ [] }
+{
+    answer[ANSWER_NUMBER] = number;
+    answer[ANSWER_PLACE] = place;
+    answer[ANSWER_FIRST] = first;
+    answer[ANSWER_SECOND] = second;
 }

@@ -10,7 +10,7 @@ use lib.Dec.{ltb}
 use lib.Seq.{take-suc-set, drop-set-lt, get_or-set_other}
 use borrow.Author.Tests.{lt-ltb, le-ltb, ltb-false}
 use Rattle.std.specs.Prelude.{Ok, Err}
-use Rattle.refusal.specs.declared.Refusal.{Refusal}
+use Rattle.refusal.specs.Verdict.{Refusal}
 use Rattle.refusal.proofs.Fine.{refuse-fine}
 use Rattle.permutation.specs.declared.Permutations.{Permutations}
 use Rattle.capacity.specs.Capacity.{max_elements}

@@ -1,8 +1,7 @@
 -- 01, "Swaps and the search": what `new` and `next` of 005 answer, and the state after it.
 use Rattle.permutation.specs.declared.Stepped.{Stepped}
 use Rattle.std.specs.Prelude.{Result, Option, Some, None, if◌then◌else◌}
-use Rattle.refusal.specs.declared.Refusal.{Refusal}
-use Rattle.refusal.specs.Verdict.{answer}
+use Rattle.refusal.specs.Verdict.{Refusal, answer}
 use Rattle.std.specs.Prelude.{ℕ, zero, suc, ◌+◌, ◌-◌, ◌%◌, List, ◌++◌, true, false, cond, get_or, set, take, drop, replicate, ltb, eqb}
 use Rattle.refusal.specs.Verdict.{Verdict}
 use Rattle.std.specs.Prelude.{Ok}

@@ -302,12 +302,12 @@ pub fn is_out_out_eavt(scan: Scan) -> bool
 }
 
 // What `cost` and `next` ask of a plan: 20, then 21 at the lowest such scan.
-#[tactic(auto, unfolding(crate::specs::Plan::flows_fault), using(crate::proofs::Counts::counted))]
+#[tactic(auto, using(crate::proofs::Counts::flows))]
 pub fn check_flows(plan: Plan) -> Verdict
     ensures { result ≡ flows_fault plan }
 {
     check_counts(plan.scan_count, plan.slot_count, plan.select_count)?;
-    check_flows_of(&plan.scans[..plan.scan_count])
+    check_scan_flows(plan.scans, plan.scan_count)
 }
 
 // The same of scans without a plan, of which the first `scan_count` count: not a slice, since a count past the array is refused.

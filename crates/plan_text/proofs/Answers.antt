@@ -7,9 +7,8 @@ use borrow.Author.Tests.{ltb-false}
 use lib.Dec.{ltb}
 use lib.ListN.{length, drop}
 use lib.Seq.{sets-eq}
-use Rattle.refusal.specs.Verdict.{Verdict}
+use Rattle.refusal.specs.Verdict.{Refusal, Verdict}
 use Rattle.std.specs.Prelude.{Result, Ok, Err}
-use Rattle.refusal.specs.declared.Refusal.{Refusal}
 use Rattle.refusal.specs.Verdict.{answer, unless}
 use Rattle.refusal.proofs.Fine.{refuse-fine, or-fine}
 use Rattle.plan.specs.declared.Plan.{Plan}

@@ -7,8 +7,7 @@ use Rattle.plan.specs.declared.Plan.{Plan}
 use Prim.Native.Nat.{ℕ}
 use Rattle.plan_text.specs.Answer.{formatted_of, text_after}
 use Rattle.std.specs.Prelude.{Result}
-use Rattle.refusal.specs.declared.Refusal.{Refusal}
-use Rattle.refusal.specs.Verdict.{answer}
+use Rattle.refusal.specs.Verdict.{Refusal, answer}
 
 -- `fmt`, the buffer included
 pub fmt-one : (p : Plan) (names ends buffer : List ℕ) (r r' : Result ℕ Refusal) (b b' : List ℕ) → r ≡ answer (formatted_of p names ends (length buffer)).verdict (formatted_of p names ends (length buffer)).length

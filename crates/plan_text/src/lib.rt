@@ -77,6 +77,8 @@ fn write_parts(plan: &Plan, names: &[u8], ends: &[usize], pen: &mut Pen)
 fn write_constants(slots: &[SlotRecord], pen: &mut Pen)
     ensures { Wrote (constant_lines slots.now 0) pen.old pen.new }
 {
+    // Read here, so that the proof knows it as a number of 64 bits.
+    let _stands = pen.at;
     for (i_slot, slot) in slots.iter().enumerate() {
         if let SlotDefinition::Constant(value) = slot.definition {
             write_constant(i_slot, value, pen);
@@ -99,6 +101,8 @@ fn write_constant(i_slot: usize, value: u64, pen: &mut Pen)
 fn write_scans(scans: &[Scan], names: &SlotNames, pen: &mut Pen)
     ensures { Wrote (scan_lines (take (length names.now.ends.now) names.now.slots.now) names.now.names.now names.now.ends.now scans.now) pen.old pen.new }
 {
+    // Read here, so that the proof knows it as a number of 64 bits.
+    let _stands = pen.at;
     for scan in scans {
         names.write_scan(*scan, pen);
     }
@@ -108,6 +112,8 @@ fn write_scans(scans: &[Scan], names: &SlotNames, pen: &mut Pen)
 fn write_selects(select: &[Slot], names: &SlotNames, pen: &mut Pen)
     ensures { Wrote (selects_text (take (length names.now.ends.now) names.now.slots.now) names.now.names.now names.now.ends.now select.now) pen.old pen.new }
 {
+    // Read here, so that the proof knows it as a number of 64 bits.
+    let _stands = pen.at;
     for (i, slot) in select.iter().enumerate() {
         if i != 0 {
             pen.write(b", ");

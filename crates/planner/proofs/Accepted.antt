@@ -6,10 +6,9 @@ use lib.ListN.{length, take}
 use lib.Seq.{take-length, length-take-le}
 use mathlib.Core.List.{List, []}
 use Rattle.capacity.specs.Capacity.{max_scans}
-use Rattle.refusal.specs.Verdict.{Verdict}
+use Rattle.refusal.specs.Verdict.{Refusal, Verdict}
 use Rattle.std.specs.Prelude.{Ok, Err}
 use Rattle.refusal.specs.Verdict.{unless, answer}
-use Rattle.refusal.specs.declared.Refusal.{Refusal}
 use Rattle.refusal.proofs.Fine.{or-fine}
 use Rattle.lists.specs.Padded.{padded}
 use Rattle.query.specs.declared.Statement.{Statement}

@@ -1,8 +1,7 @@
 -- What an answer says of its verdict.
 use mathlib.Core.Path.{◌≡◌, refl}
 use Rattle.std.specs.Prelude.{Ok, Err}
-use Rattle.refusal.specs.declared.Refusal.{Refusal}
-use Rattle.refusal.specs.Verdict.{Verdict, answer}
+use Rattle.refusal.specs.Verdict.{Refusal, Verdict, answer}
 
 module _ {A : Type 0} where
   -- a refusal is the verdict's

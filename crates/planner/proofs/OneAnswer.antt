@@ -1,12 +1,11 @@
 -- No second answer fits the promises of this crate.
 use mathlib.Core.Path.{◌≡◌}
-use Rattle.refusal.specs.Verdict.{Verdict}
+use Rattle.refusal.specs.Verdict.{Refusal, Verdict}
 use Rattle.refusal.proofs.OneAnswer.{one_answer}
 use Rattle.query.specs.declared.Query.{Query}
 use Rattle.planner.specs.Refusals.{plan_fault}
 use Rattle.planner.specs.Planning.{plan_of}
 use Rattle.std.specs.Prelude.{Result}
-use Rattle.refusal.specs.declared.Refusal.{Refusal}
 use Rattle.refusal.specs.Verdict.{answer}
 use Rattle.plan.specs.declared.Plan.{Plan}
 

@@ -11,8 +11,7 @@ use Rattle.query.specs.declared.Query.{Query}
 use Rattle.planner.specs.Planning.{plan_of}
 use Rattle.planner_lent.specs.Lent.{read_statements, read_selects, plan_lent}
 use Rattle.std.specs.Prelude.{Result}
-use Rattle.refusal.specs.declared.Refusal.{Refusal}
-use Rattle.refusal.specs.Verdict.{answer}
+use Rattle.refusal.specs.Verdict.{Refusal, answer}
 use Rattle.plan.specs.declared.Plan.{Plan}
 
 pub read-statements-one : (ss : List Statement) (r r' : Statements) → r ≡ read_statements ss → r' ≡ read_statements ss → r ≡ r'

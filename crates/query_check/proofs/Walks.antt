@@ -5,8 +5,7 @@ use mathlib.Core.List.{List}
 use lib.ListN.{length, get_or}
 use lib.Seq.{take-length}
 use Rattle.std.specs.Prelude.{Ok, Err}
-use Rattle.refusal.specs.declared.Refusal.{Refusal}
-use Rattle.refusal.specs.Verdict.{Verdict}
+use Rattle.refusal.specs.Verdict.{Refusal, Verdict}
 use Rattle.refusal.specs.Verdict.{first_fault}
 use Rattle.refusal.proofs.First.{Walked, walked-found, walked-done}
 

@@ -10,8 +10,7 @@ use lib.ListN.{length, get_or, take, drop}
 use Rattle.lists.specs.Span.{span}
 use Rattle.lists.proofs.Walk.{each, walk_step, walk_end}
 use Rattle.lists.proofs.Span.{length-span, get_or-span}
-use Rattle.refusal.specs.declared.Refusal.{Refusal}
-use Rattle.refusal.specs.Verdict.{Verdict}
+use Rattle.refusal.specs.Verdict.{Refusal, Verdict}
 use Rattle.std.specs.Prelude.{Ok, Err}
 use Rattle.refusal.specs.Verdict.{refused, refuse_if, first_fault, refuse_first, Lowest}
 use Rattle.refusal.proofs.Fine.{refuse-fine, or-fine}

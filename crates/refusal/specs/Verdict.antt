@@ -2,7 +2,11 @@
 use Rattle.std.specs.Prelude.{ℕ, ◌+◌, ◌<◌, List, [], ◌∷◌, Bool, true, false, Result, Ok, Err, ⊤, find, unwrap_or, nat_eq}
 use Rattle.refusal.specs.declared.Rule.{Rule}
 use Rattle.refusal.specs.declared.Rule.TheVariants.{TableLength, TableOrder, TableMissing, TooManyStatements, TooManySlots, TooManySelects, NoSelects, NoSuchVariable, UnusedVariable, BoundTwice, TooManyToSearch, NoSoundOrder, PlanCounts, OutOutEavt, NoSuchSlot, WritesSetSlot, ReadsUnsetSlot, SlotNeverSet, NoSuchSelect, CostTooLarge, NoScans, ConstantSelected, NameEnds, TextTooShort, TooManyElements, TypeTable, NoSuchAttribute, TypeClash, BitsRunOut, NoSuchCode, PadNotZero, ByteTooMany, NoRoomForImage, HeapLength, BufferTooShort}
-use Rattle.refusal.specs.declared.Refusal.{Refusal}
+use Rattle.refusal.specs.declared.Refused.{Refused}
+
+-- a refusal by one of 01's rules
+abbrev pub Refusal : Type 0
+Refusal = Refused Rule
 
 -- nothing is wrong, or a refusal
 abbrev pub Verdict : Type 0

@@ -59,12 +59,15 @@ pub enum Rule {
     BufferTooShort = 71,
 }
 
-// A refusal: the rule that is broken, and the place that 01's table gives it.
+// A refusal: what is broken, and the place that 01's table gives it.
 #[derive(Clone, Copy, Debug, PartialEq, Eq)]
-pub struct Refusal {
-    pub rule: Rule,
+pub struct Refused<R> {
+    pub rule: R,
     pub place: usize,
 }
+
+// By one of 01's rules.
+pub type Refusal = Refused<Rule>;
 
 // What every public call says first: nothing is wrong, or the first refusal in 01's order.
 pub type Verdict = Result<(), Refusal>;
@@ -78,9 +81,9 @@ impl Rule {
     }
 }
 
-// The answer that refuses by a rule at a place.
-pub fn refuse<T>(rule: Rule, place: usize) -> Result<T, Refusal>
+// The answer that refuses at a place: by a rule, or by any other number or name of what is broken.
+pub fn refuse<T, R>(rule: R, place: usize) -> Result<T, Refused<R>>
     ensures { result ≡ Err (record { rule = rule; place = place }) }
 {
-    Err(Refusal { rule, place })
+    Err(Refused { rule, place })
 }

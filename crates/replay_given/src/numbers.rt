@@ -13,7 +13,11 @@ impl<'a> Numbers<'a> {
 
     // The next number, if one is left: past what is no digit, its digits.
     pub fn next_number(&mut self) -> Option<u64> {
-        let start = self.rest.iter().position(|b| b.is_ascii_digit())?;
+        let Some(start) = self.rest.iter().position(|b| b.is_ascii_digit()) else {
+            // What is left has no number, and is not looked through again.
+            self.rest = &[];
+            return None;
+        };
         let begun = &self.rest[start..];
         let length = begun
             .iter()

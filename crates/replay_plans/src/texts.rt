@@ -2,6 +2,9 @@
 // follow, and these; how many ends, and these; the number of the select whose name is asked; how many buffers to try, and the length of
 // each; how many slots are asked for, and their numbers. The buffer that is lent is shown whole, so that bytes past the text are seen to
 // stay. What is no printable ASCII nor a line's end is shown as a number. compare/texts.rs makes cases and answers.
+ghost use Rattle.std.specs.Prelude.{◌≡◌, length};
+ghost use Rattle.replay_plans.specs.Capacity.{buffer_bytes};
+
 use plan::{Plan, Slot};
 use replay_given::given;
 use replay_given::numbers::Numbers;
@@ -10,7 +13,7 @@ use std::io::Stdout;
 use std::{fmt, io};
 
 // The longest buffer for a text, an image or an image given.
-pub(crate) const BUFFER_BYTES: usize = 4096;
+pub const BUFFER_BYTES: usize = 4096;
 
 // The most bytes of names, and how many names.
 const NAME_BYTES: usize = 1024;
@@ -80,7 +83,9 @@ fn put_text(
 }
 
 // A buffer that shows which bytes stay.
-pub(crate) fn blank() -> [u8; BUFFER_BYTES] {
+pub fn blank() -> [u8; BUFFER_BYTES]
+    ensures { buffer_bytes ≡ length result }
+{
     [b'~'; BUFFER_BYTES]
 }
 

@@ -10,8 +10,7 @@ use borrow.Author.Tests.{lt-ltb, le-ltb}
 use lib.ListN.{length, take}
 use lib.Dec.{ltb}
 use Rattle.capacity.specs.Capacity.{max_scans, max_searched}
-use Rattle.refusal.specs.declared.Refusal.{Refusal}
-use Rattle.refusal.specs.Verdict.{Verdict}
+use Rattle.refusal.specs.Verdict.{Refusal, Verdict}
 use Rattle.std.specs.Prelude.{Ok, Err, Some, None}
 use Rattle.refusal.specs.Verdict.{refused}
 use Rattle.lists.specs.Padded.{padded}

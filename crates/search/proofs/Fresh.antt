@@ -6,7 +6,6 @@ use mathlib.Core.List.{List, [], map}
 use lib.ListN.{length, take}
 use lib.Seq.{length-take-le}
 use Rattle.capacity.specs.Capacity.{max_statements, max_scans, max_selects}
-use Rattle.refusal.specs.declared.Refusal.{Refusal}
 use Rattle.std.specs.Prelude.{Ok, Err, Option}
 use Rattle.refusal.proofs.Fine.{or-fine}
 use Rattle.lists.specs.Padded.{padded}
@@ -22,7 +21,7 @@ use Rattle.plan.specs.Plan.{zero_scan}
 use Rattle.planner.specs.Answered.{Planned}
 use Rattle.planner.specs.Refusals.{bound_twice_fault, plan_fault}
 use Rattle.planner.specs.Planning.{scans_for, plan_for, plan_of}
-use Rattle.refusal.specs.Verdict.{answer}
+use Rattle.refusal.specs.Verdict.{Refusal, answer}
 use Rattle.planner.proofs.Answered.{answer-refused, answer-fine}
 use Rattle.planner.proofs.Accepted.{query-fits}
 use Rattle.planner.proofs.Statements.{length-scans}

@@ -4,7 +4,7 @@ use Rattle.refusal.proofs.OneAnswer.{one_answer}
 use Rattle.query.specs.declared.Query.{Query}
 use Rattle.search.specs.Search.{search_of}
 use Rattle.std.specs.Prelude.{Result}
-use Rattle.refusal.specs.declared.Refusal.{Refusal}
+use Rattle.refusal.specs.Verdict.{Refusal}
 use Rattle.search.specs.declared.Cheapest.{Cheapest}
 use Rattle.search.specs.Search.{said_found}
 

@@ -1,7 +1,6 @@
 -- 01, "Swaps and the search": the plans that are weighed, and the first of least cost.
 use Rattle.std.specs.Prelude.{Result}
-use Rattle.refusal.specs.declared.Refusal.{Refusal}
-use Rattle.refusal.specs.Verdict.{answer}
+use Rattle.refusal.specs.Verdict.{Refusal, answer}
 use Rattle.search.specs.declared.Cheapest.{Cheapest}
 use Rattle.std.specs.Prelude.{ℕ, List, [], ◌∷◌, ◌++◌, map, Bool, true, false, cond, get_or, replicate, ltb}
 use Rattle.capacity.specs.Capacity.{max_statements, max_searched}

@@ -9,7 +9,7 @@ use Rattle.query.specs.declared.Query.{Query}
 use Rattle.search.specs.Search.{search_of}
 use Rattle.search_lent.specs.Lent.{search_lent}
 use Rattle.std.specs.Prelude.{Result}
-use Rattle.refusal.specs.declared.Refusal.{Refusal}
+use Rattle.refusal.specs.Verdict.{Refusal}
 use Rattle.search.specs.declared.Cheapest.{Cheapest}
 use Rattle.search.specs.Search.{said_found}
 

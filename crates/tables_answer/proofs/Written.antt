@@ -7,9 +7,8 @@ use native.Mathlib.Omega.{arith}
 use lib.ListN.{length, take, drop, get_or, length-append}
 use lib.Seq.{take_all, take_at}
 use lib.Dec.{ltb, eqb}
-use Rattle.refusal.specs.Verdict.{Verdict}
+use Rattle.refusal.specs.Verdict.{Refusal, Verdict}
 use Rattle.std.specs.Prelude.{Ok, Err}
-use Rattle.refusal.specs.declared.Refusal.{Refusal}
 use Rattle.refusal.specs.Verdict.{refuse_if, or_else, unless, answer, number_in}
 use Rattle.datom.specs.Fact.{words, aevt_row, avet_row, eavt_row}
 use Rattle.text_pieces.specs.Ascii.{ascii}

@@ -44,7 +44,8 @@ fn read_heap<'a>(text: &[u8], words: &'a mut [u64]) -> Option<&'a [u64]>
         return None;
     }
     let count = ask_numbers::read_words(text, words)?;
-    let (first, heap) = words[..count].split_first()?;
+    let read = &words[..count];
+    let (first, heap) = read.split_first()?;
     if *first != heap.len() as u64 {
         return None;
     }
@@ -130,6 +131,6 @@ fn write_refusal(refusal: Refusal, out: &mut [u8]) -> usize
     ensures { Written (refusal_text (Err refusal)) 0 out.old result out.new }
 {
     let mut pen = Pen { out, at: 0 };
-    ask_lines::write_refusal(refusal, &mut pen);
+    ask_lines::write_refusal(refusal.rule.number(), refusal.place, &mut pen);
     pen.at
 }

@@ -10,9 +10,10 @@ use tables_answer::{ANSWER_BYTES, TEXT_BYTES};
 use whole_input::read_full;
 
 fn main(rt: HostRuntime) -> io::Result<()> {
+    // Both before the text is read: made after it, the second would be zeroed twice.
     let mut text = text_buffer();
-    let n = read_full(&mut rt.stdin(), &mut text)?;
     let mut out = answer_buffer();
+    let n = read_full(&mut rt.stdin(), &mut text)?;
     let count = tables_answer::answer(&text[..n], &mut out);
     rt.stdout().write_all(&out[..count])
 }

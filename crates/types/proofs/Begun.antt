@@ -8,9 +8,8 @@ use lib.ListN.{length, get_or, take, drop, replicate, drop_of_length-le}
 use lib.Seq.{take-suc, take_all, drop-cons}
 use mathlib.Core.Bool.{Bool, true, false, cond}
 use Rattle.capacity.specs.Capacity.{max_slots}
-use Rattle.refusal.specs.declared.Refusal.{Refusal}
 use Rattle.std.specs.Prelude.{Ok, Err, Option, Some, None, unwrap_or}
-use Rattle.refusal.specs.Verdict.{answer}
+use Rattle.refusal.specs.Verdict.{Refusal, answer}
 use Rattle.lists.specs.Tabled.{tabled}
 use Rattle.lists.proofs.Tabled.{tabled-same}
 use Rattle.query.specs.declared.Statement.{Statement}

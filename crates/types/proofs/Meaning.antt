@@ -11,8 +11,7 @@ use borrow.Author.Tests.{not-false}
 use lib.ListN.{length, get_or, take, replicate, get_or-eq_default}
 use lib.Seq.{take-suc}
 use Rattle.capacity.specs.Capacity.{max_slots}
-use Rattle.refusal.specs.declared.Refusal.{Refusal}
-use Rattle.refusal.specs.Verdict.{Verdict}
+use Rattle.refusal.specs.Verdict.{Refusal, Verdict}
 use Rattle.std.specs.Prelude.{Ok, Err}
 use Rattle.refusal.specs.Verdict.{number_in, rule_of, refused, refuse_if, number_of, or_else, unless}
 use Rattle.refusal.proofs.Fine.{refuse-fine, or-fine}

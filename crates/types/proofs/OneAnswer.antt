@@ -6,8 +6,7 @@ use Rattle.refusal.proofs.OneAnswer.{one_answer}
 use Rattle.query.specs.declared.Query.{Query}
 use Rattle.types.specs.Types.{inferred_of}
 use Rattle.std.specs.Prelude.{Result}
-use Rattle.refusal.specs.declared.Refusal.{Refusal}
-use Rattle.refusal.specs.Verdict.{answer}
+use Rattle.refusal.specs.Verdict.{Refusal, answer}
 
 pub types-one : (q : Query) (table : List ℕ) (r r' : Result (List ℕ) Refusal) → r ≡ answer (inferred_of q table).verdict (inferred_of q table).types → r' ≡ answer (inferred_of q table).verdict (inferred_of q table).types → r ≡ r'
 types-one q table r r' = one_answer

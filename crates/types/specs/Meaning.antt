@@ -1,9 +1,8 @@
 -- What the types mean: 02, Ticket 1's sentences on an assignment of types to variables, and what the answers say of it.
 use Rattle.std.specs.Prelude.{◌≡◌, ℕ, ◌+◌, ◌≤◌, ◌<◌, List, [], ◌∷◌, true, false, length, get_or, take, replicate}
 use Rattle.capacity.specs.Capacity.{max_slots}
-use Rattle.refusal.specs.declared.Refusal.{Refusal}
 use Rattle.std.specs.Prelude.{Ok, Err}
-use Rattle.refusal.specs.Verdict.{refused}
+use Rattle.refusal.specs.Verdict.{Refusal, refused}
 use Rattle.query.specs.declared.QueryValue.{QueryValue}
 use Rattle.query.specs.declared.QueryValue.TheVariants.{Const, Var as Variable}
 use Rattle.query.specs.declared.Statement.{Statement}

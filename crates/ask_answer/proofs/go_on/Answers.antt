@@ -1,7 +1,7 @@
 -- The parts are the tables, and the window is the next part.
 use Rattle.std.proofs.Common.{◌≡◌, Err, rules}
 use Rattle.std.specs.Prelude.{Result}
-use Rattle.refusal.specs.declared.Refusal.{Refusal}
+use Rattle.refusal.specs.Verdict.{Refusal}
 use Rattle.ask_answer.specs.declared.Part.{Part}
 use Rattle.ask_answer.proofs.Handed.{goes_on}
 use Rattle.ask_answer.proofs.go_on.Goals as goal

@@ -6,4 +6,4 @@ use Rattle.ask_lines.proofs.write_refusal.Goals as goal
 pub returns : goal.returns
 unfolding refusal_line
 returns c =
-    rw (c.from.ensures, c.number.ensures) at (wrote_then (wrote_then (wrote_then (wrote_then c.write.ensures c.write_decimal.ensures) c.write-2.ensures) c.write_decimal-2.ensures) c.write-3.ensures)
+    rw c.from.ensures at (wrote_then (wrote_then (wrote_then (wrote_then c.write.ensures c.write_decimal.ensures) c.write-2.ensures) c.write_decimal-2.ensures) c.write-3.ensures)

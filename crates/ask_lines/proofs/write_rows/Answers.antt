@@ -1,5 +1,9 @@
-use Rattle.ask_lines.proofs.Rows.{one_more, all-written}
+use native.Mathlib.Omega.{arith}
+use Rattle.ask_lines.proofs.Rows.{none_yet, one_more, all-written}
 use Rattle.ask_lines.proofs.write_rows.Goals as goal
+
+pub loop-word-init : goal.loop-word-init
+loop-word-init c = none_yet (omega arith) (omega arith)
 
 pub loop-word-preserved : goal.loop-word-preserved
 loop-word-preserved c =

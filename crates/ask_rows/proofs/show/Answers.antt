@@ -1,7 +1,7 @@
 -- A refusal; or lines, and after the last window the last line.
 use Rattle.std.proofs.Common.{◌≡◌, refl, Err, rules}
 use Rattle.std.specs.Prelude.{Result}
-use Rattle.refusal.specs.declared.Refusal.{Refusal}
+use Rattle.refusal.specs.Verdict.{Refusal}
 use Rattle.ask_rows.specs.declared.Window.{Window}
 use Rattle.ask_rows.proofs.Shown.{refused-shows, shows}
 use Rattle.ask_rows.proofs.show.Goals as goal

@@ -7,7 +7,7 @@ use Rattle.plan_text.proofs.write_scans.Goals as goal
 
 pub loop-scan-init : goal.loop-scan-init
 unfolding scan_lines
-loop-scan-init c = wrote_none
+loop-scan-init c = wrote_none (omega arith) (omega arith)
 
 pub loop-scan-preserved : goal.loop-scan-preserved
 loop-scan-preserved c =

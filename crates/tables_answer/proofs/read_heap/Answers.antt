@@ -11,8 +11,8 @@ returns-then-text-ge-TEXT_BYTES c = too_long _ c.if-text-ge-TEXT_BYTES.true
 pub returns-in_err-count : goal.returns-in_err-count
 returns-in_err-count c = rw c.from_residual.ensures (no-heap _ c.args.words.now (omega arith) c.requires c.in_err-count.ensures.value)
 
-pub slice_bounds-split_first-end : goal.slice_bounds-split_first-end
-slice_bounds-split_first-end c =
+pub slice_bounds-read-end : goal.slice_bounds-read-end
+slice_bounds-read-end c =
     sym (length-take-le _ _ (count_fits _ c.args.words.now (omega arith) c.requires c.in_ok-count.ensures.value c.read_words.ensures.words_after))
 
 pub returns-in_err-first : goal.returns-in_err-first

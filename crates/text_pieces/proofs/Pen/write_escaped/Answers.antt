@@ -5,7 +5,7 @@ use Rattle.text_pieces.proofs.Wrote.{wrote_none, wrote_then}
 use Rattle.text_pieces.proofs.Pen.write_escaped.Goals as goal
 
 pub loop-byte-init : goal.loop-byte-init
-loop-byte-init c = rw (← (laid_none escaped_byte)) wrote_none
+loop-byte-init c = rw (← (laid_none escaped_byte)) (wrote_none (omega arith) (omega arith))
 
 pub loop-byte-preserved : goal.loop-byte-preserved
 loop-byte-preserved c =
