@@ -79,7 +79,7 @@ fault-short false false = omega arith
 
 module _ (h : List ℕ) (a b c : ℕ) {n : ℕ} {r : Built} {out out' : List ℕ} (p : a ≡ heap_words) (q : b ≡ heap_words) (s : c ≡ heap_words) (e : r ≡ build_of h a b c) where
   -- refused: its line
-  answer-refused : {x : Refusal} → r.verdict ≡ Err x → Written (refusal_line (number_in x.rule) x.place) 0 out n out' → Answered (heap_answer_for h) out n out'
+  pub answer-refused : {x : Refusal} → r.verdict ≡ Err x → Written (refusal_line (number_in x.rule) x.place) 0 out n out' → Answered (heap_answer_for h) out n out'
   unfolding heap_answer_for
   answer-refused {x} f w =
       let fault : heap_fault (length h) heap_words heap_words heap_words ≡ Err x = rw (p, q, s) at (sym (verdict_is h a b c e) ∙ f) in
@@ -87,7 +87,7 @@ module _ (h : List ℕ) (a b c : ℕ) {n : ℕ} {r : Built} {out out' : List ℕ
       (rw fault w, omega (arith, w.position_is))
 
   -- else the fronts of the buffers
-  answer-built : (a₀ b₀ c₀ : List ℕ) {a' b' c' : List ℕ} → r.verdict ≡ Ok tt → a' ≡ built_over r.verdict (built_rows aevt_row h) a₀ → b' ≡ built_over r.verdict (built_rows avet_row h) b₀
+  pub answer-built : (a₀ b₀ c₀ : List ℕ) {a' b' c' : List ℕ} → r.verdict ≡ Ok tt → a' ≡ built_over r.verdict (built_rows aevt_row h) a₀ → b' ≡ built_over r.verdict (built_rows avet_row h) b₀
       → c' ≡ built_over r.verdict (built_rows eavt_row h) c₀
       → Answered (table_parts (take (r.count * words) a') (take (r.count * words) b') (take (r.count * words) c')) out n out' → Answered (heap_answer_for h) out n out'
   unfolding heap_answer_for
