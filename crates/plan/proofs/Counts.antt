@@ -37,6 +37,4 @@ flows-agree p = go (counts_fault p.scan_count p.slot_count p.select_count) refl
     go (Ok tt) e = simp (le-ltb _ _ (counts-fine _ _ _ e).few_scans)
     go (Err r) e = refl
 
-pub ruleset counted = counts-fine
-
 pub ruleset flows = flows-agree
